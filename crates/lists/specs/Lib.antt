@@ -1,0 +1,6 @@
+-- definitions
+pub mod Bytes  -- byte strings, big-endian numbers
+-- laws
+pub mod Same  -- comparing byte strings
+pub mod Pasted  -- bytes copied into a byte string
+pub mod Numbers  -- big-endian numbers, there and back
