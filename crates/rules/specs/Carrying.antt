@@ -1,0 +1,93 @@
+-- One hop on the rows of any state, made up or not: what the comparison with a component found good, and what the carry leaves.
+use mathlib.Core.Path.{_≡_, refl, sym, ap, _∙_}
+use mathlib.Core.Logic.{_⊎_, inl, inr}
+use mathlib.Core.Bool.{Bool, true, false, cond, _||_, and-eq-true-iff}
+use mathlib.Core.List.{List, [], _∷_, _++_}
+use Prim.Native.Nat.{ℕ, zero, suc, _+_, _-_, _/_, _%_, _^_, _<_}
+use native.Mathlib.Nat.{le-of-suc-le-suc, add-zero, div-one, pow-suc}
+use native.Mathlib.Omega.{arith}
+use native.Mathlib.Numerals.{add-one}
+use lib.ListN.{length, getD, take, drop, length-append, take-append-drop}
+use borrow.Author.Tests.{eq-eqb, ne-eqb}
+use Rattle.lists.specs.Bytes.{Bytes, same, zeros}
+use Rattle.lists.specs.Same.{same-true}
+use Rattle.rules.specs.Numbers.{Version}
+use Rattle.rules.specs.Messages.{row}
+use Rattle.rules.specs.Held.{Held, odd, freeZero}
+use Rattle.rules.specs.Checking.{agrees, carried, rowsAfter}
+use Rattle.rules.specs.Hops.{split-mod}
+use Rattle.rules.specs.Parity.{half-first, Odd, Even, is-odd, parity}
+
+-- ---- the comparison
+
+-- Where rows agree with a component x, each row in use on the way is x's link of the next level: the row of level c + m, if the lowest m + 1 bits of q
+-- are ones.
+pub rows-checked : (v : Version) (x : Bytes) (rs : List Bytes) (c q m : ℕ) → agrees v c q rs x ≡ true → suc q % 2 ^ suc m ≡ 0 → m < length rs
+    → getD rs m [] ≡ row v x (suc (suc (c + m)))
+unfolding agrees
+rows-checked v x [] c q m a d h = absurd (omega arith)
+rows-checked v x (r ∷ rs) c q m a d h = go m (split-mod (suc q) m d) h (rows-checked v x rs (suc c) (q / 2))
+  where
+    used : suc q % 2 ≡ 0 → odd q ≡ true
+    used e = eq-eqb (q % 2) 1 (omega arith)
+
+    good : suc q % 2 ≡ 0 → (same r (row v x (suc (suc c))) ≡ true) × (agrees v (suc c) (q / 2) rs x ≡ true)
+    good e = and-eq-true-iff (same r (row v x (suc (suc c)))) (agrees v (suc c) (q / 2) rs x) .0 (rw (used e) at a)
+
+    go : (m : ℕ) → (suc q % 2 ≡ 0) × (suc q / 2 % 2 ^ m ≡ 0) → m < suc (length rs)
+        → ((m : ℕ) → agrees v (suc c) (q / 2) rs x ≡ true → suc (q / 2) % 2 ^ suc m ≡ 0 → m < length rs → getD rs m [] ≡ row v x (suc (suc (suc c + m))))
+        → getD (r ∷ rs) m [] ≡ row v x (suc (suc (c + m)))
+    go zero d h ih = rw add-zero (same-true r (row v x (suc (suc c))) (good (d .0) .0))
+    go (suc m) d h ih =
+        let e : suc q / 2 ≡ suc (q / 2) = is-odd q (used (d .0)) .half in
+        ih m (good (d .0) .1) (rw e at (d .1)) (le-of-suc-le-suc h) ∙ ap (λ (k : ℕ). row v x (suc (suc k))) (let f : suc c + m ≡ c + suc m = omega arith in f)
+
+-- ---- the carry
+
+-- A carry keeps the number of rows.
+pub carried-length : (rs : List Bytes) (q : ℕ) (t : Bytes) → length (carried q rs t) ≡ length rs
+unfolding carried
+carried-length [] q t = refl
+carried-length (r ∷ rs) q t = go (odd q) (carried-length rs (q / 2) r)
+  where
+    go : (b : Bool) → length (carried (q / 2) rs r) ≡ length rs → length (cond b (zeros ∷ carried (q / 2) rs r) (t ∷ rs)) ≡ suc (length rs)
+    go true e = ap suc e
+    go false e = refl
+
+-- Where the free rows of q are zero, so are those of suc q after a carry.
+pub carried-free : (rs : List Bytes) (q : ℕ) (t : Bytes) → freeZero q rs ≡ true → freeZero (suc q) (carried q rs t) ≡ true
+unfolding carried freeZero
+carried-free [] q t f = refl
+carried-free (r ∷ rs) q t f = go (parity q) (carried-free rs (q / 2) r rest)
+  where
+    rest : freeZero (q / 2) rs ≡ true
+    rest = and-eq-true-iff (odd q || same r zeros) (freeZero (q / 2) rs) .0 f .1
+
+    go : Odd q ⊎ Even q → freeZero (suc (q / 2)) (carried (q / 2) rs r) ≡ true → freeZero (suc q) (carried q (r ∷ rs) t) ≡ true
+    go (inl h) ih = rw (h .here, h .next, h .half) ih
+    go (inr h) ih = rw (h .here, h .next, h .half) rest
+
+-- ---- the whole hop, of level l from j
+
+free-after : (l j : ℕ) (rs : List Bytes) (t : Bytes) → j % 2 ^ l ≡ 0 → freeZero j rs ≡ true → freeZero (j + 2 ^ l) (take l rs ++ carried (j / 2 ^ l) (drop l rs) t) ≡ true
+unfolding freeZero carried
+free-after zero j rs t d f = rw (div-one, add-one) (carried-free rs j t f)
+free-after (suc l) j [] t d f = refl
+free-after (suc l) j (r ∷ rs) t d f =
+    let two = pow-suc 2 l in
+    let s = split-mod j l d in
+    let here : odd j ≡ false = ne-eqb (j % 2) 1 (λ e. omega (arith, s .0)) in
+    let there : odd (j + 2 ^ suc l) ≡ false = ne-eqb ((j + 2 ^ suc l) % 2) 1 (λ e. omega (arith, s .0)) in
+    let half : (j + 2 ^ suc l) / 2 ≡ j / 2 + 2 ^ l = omega arith in
+    let g = and-eq-true-iff (odd j || same r zeros) (freeZero (j / 2) rs) .0 f in
+    let z : same r zeros ≡ true = rw here at (g .0) in
+    rw (there, z, half, half-first) (free-after l (j / 2) rs t (s .1) (g .1))
+
+module _ (h : Held) (l : ℕ) where
+  -- A hop keeps the number of rows.
+  pub rows-after-length : length (rowsAfter l h) ≡ length (h .rows)
+  rows-after-length = simp (length-append, carried-length) (sym (length-append (take l (h .rows)) (drop l (h .rows))) ∙ ap length (take-append-drop l (h .rows)))
+
+  -- Where the free rows at the count are zero, so are those at the end of a hop, if the hop's power divides the count.
+  pub rows-after-free : h .count % 2 ^ l ≡ 0 → freeZero (h .count) (h .rows) ≡ true → freeZero (h .count + 2 ^ l) (rowsAfter l h) ≡ true
+  rows-after-free = free-after l (h .count) (h .rows) (h .digest)
