@@ -50,15 +50,24 @@ module _ (H : Bytes → Bytes) (v : Version) where
         walked = d .1;
       }
 
-  walk-count : (ls : List ℕ) (j : ℕ) (t p D : Bytes) (o k m : ℕ) → walk H v j t ls p o D k ≡ accepted m → m ≡ k + length ls
+  -- Where a walk is accepted at its end, the digest there is the one given, and the hops are those found good.
+  pub walk-ended : (j : ℕ) (t p : Bytes) (o : ℕ) (D : Bytes) (k m : ℕ) → walk H v j t [] p o D k ≡ accepted m → (t ≡ D) × (k ≡ m)
   unfolding walk
-  walk-count [] j t p D o k m h =
-      let a = must-accepted (same t D) digestDiffers k m (accepted k) h in
-      let q : k ≡ m = cc (a .1) in omega arith
+  walk-ended j t p o D k m h = let a = must-accepted (same t D) digestDiffers k m _ h in (same-true t D (a .0), cc (a .1))
+
+  -- Where a walk is accepted, the link of its next hop is the digest before it, and the walk from there is accepted.
+  pub walk-hopped : (j : ℕ) (t : Bytes) (l : ℕ) (ls : List ℕ) (p : Bytes) (o : ℕ) (D : Bytes) (k m : ℕ) → walk H v j t (l ∷ ls) p o D k ≡ accepted m →
+      let i = j + 2 ^ l in
+      (row v (part v p o i) (suc l) ≡ t) × (walk H v i (digestAt H v p o i) ls p (o + size v i) D (suc k) ≡ accepted m)
+  unfolding walk
+  walk-hopped j t l ls p o D k m h =
+      let a = must-accepted (same (row v (part v p o (j + 2 ^ l)) (suc l)) t) linkDiffers k m _ h in (same-true (row v (part v p o (j + 2 ^ l)) (suc l)) t (a .0), a .1)
+
+  walk-count : (ls : List ℕ) (j : ℕ) (t p D : Bytes) (o k m : ℕ) → walk H v j t ls p o D k ≡ accepted m → m ≡ k + length ls
+  walk-count [] j t p D o k m h = let a = walk-ended j t p o D k m h .1 in omega arith
   walk-count (l ∷ ls) j t p D o k m h =
       let i = j + 2 ^ l in
-      let a = must-accepted (same (row v (part v p o i) (suc l)) t) linkDiffers k m _ h in
-      let r = walk-count ls i (digestAt H v p o i) p D (o + size v i) (suc k) m (a .1) in omega arith
+      let r = walk-count ls i (digestAt H v p o i) p D (o + size v i) (suc k) m (walk-hopped j t l ls p o D k m h .1) in omega arith
 
   -- "which equals the path's hops when accepted"
   pub member-hops : (e : Bytes) (i n : ℕ) (D p : Bytes) (m : ℕ) → member H v e i n D p ≡ accepted m → m ≡ length (hops i n)

@@ -1,7 +1,7 @@
 -- One hop on the rows of any state, made up or not: what the comparison with a component found good, and what the carry leaves.
 use mathlib.Core.Path.{_≡_, refl, sym, ap, _∙_}
 use mathlib.Core.Logic.{_⊎_, inl, inr}
-use mathlib.Core.Bool.{Bool, true, false, cond, _||_, and-eq-true-iff}
+use mathlib.Core.Bool.{true, false, _||_, and-eq-true-iff}
 use mathlib.Core.List.{List, [], _∷_, _++_}
 use Prim.Native.Nat.{ℕ, zero, suc, _+_, _-_, _/_, _%_, _^_, _<_}
 use native.Mathlib.Nat.{le-of-suc-le-suc, add-zero, div-one, pow-suc}
@@ -48,23 +48,23 @@ rows-checked v x (r ∷ rs) c q m a d h = go m (split-mod (suc q) m d) h (rows-c
 pub carried-length : (rs : List Bytes) (q : ℕ) (t : Bytes) → length (carried q rs t) ≡ length rs
 unfolding carried
 carried-length [] q t = refl
-carried-length (r ∷ rs) q t = go (odd q) (carried-length rs (q / 2) r)
+carried-length (r ∷ rs) q t = go (parity q) (carried-length rs (q / 2))
   where
-    go : (b : Bool) → length (carried (q / 2) rs r) ≡ length rs → length (cond b (zeros ∷ carried (q / 2) rs r) (t ∷ rs)) ≡ suc (length rs)
-    go true e = ap suc e
-    go false e = refl
+    go : Odd q ⊎ Even q → ((x : Bytes) → length (carried (q / 2) rs x) ≡ length rs) → length (carried q (r ∷ rs) t) ≡ suc (length rs)
+    go (inl h) ih = rw (h .here) (ap suc (ih _))
+    go (inr h) ih = rw (h .here)
 
 -- Where the free rows of q are zero, so are those of suc q after a carry.
 pub carried-free : (rs : List Bytes) (q : ℕ) (t : Bytes) → freeZero q rs ≡ true → freeZero (suc q) (carried q rs t) ≡ true
 unfolding carried freeZero
 carried-free [] q t f = refl
-carried-free (r ∷ rs) q t f = go (parity q) (carried-free rs (q / 2) r rest)
+carried-free (r ∷ rs) q t f = go (parity q) (λ x. carried-free rs (q / 2) x rest)
   where
     rest : freeZero (q / 2) rs ≡ true
     rest = and-eq-true-iff (odd q || same r zeros) (freeZero (q / 2) rs) .0 f .1
 
-    go : Odd q ⊎ Even q → freeZero (suc (q / 2)) (carried (q / 2) rs r) ≡ true → freeZero (suc q) (carried q (r ∷ rs) t) ≡ true
-    go (inl h) ih = rw (h .here, h .next, h .half) ih
+    go : Odd q ⊎ Even q → ((x : Bytes) → freeZero (suc (q / 2)) (carried (q / 2) rs x) ≡ true) → freeZero (suc q) (carried q (r ∷ rs) t) ≡ true
+    go (inl h) ih = rw (h .here, h .next, h .half) (ih _)
     go (inr h) ih = rw (h .here, h .next, h .half) rest
 
 -- ---- the whole hop, of level l from j

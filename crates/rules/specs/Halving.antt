@@ -159,6 +159,7 @@ module _ (v : Version) where
           record { few = omega (arith, g .0); short = omega (arith, g .1) }
       go (suc r) e (no d) = let b : i ≡ n = omega arith in rw (← b) (alone (suc k) i r e)
 
+  -- So it is, by induction over the levels,
   pub path-bound : (k i n : ℕ) → suc k ≤ 64 → 1 ≤ i → i ≤ n → n < 2 ^ suc k → Bounded k i n
   path-bound zero i n w lo hi top =
       let a : i ≡ 1 = omega arith in
@@ -166,7 +167,7 @@ module _ (v : Version) where
       rw (a, b) (alone 0 1 0 refl)
   path-bound (suc k) i n w lo hi top = bound-step k (λ i n. path-bound k i n (omega arith)) i n w lo hi top
 
-  -- and of a path from the start to a number of k levels
+  -- and a path from the start to a number of k levels has at most k hops and these bytes.
   pub start-bound : (k n : ℕ) → k ≤ 64 → n < 2 ^ k → (length (pathAfter 0 n) ≤ k) × (total v (pathAfter 0 n) ≤ k * (v .before + 48) + 16 * (k * k))
   start-bound zero n w top = let b : n ≡ 0 = omega arith in rw (b, after-end) (zero-le, zero-le)
   start-bound (suc k) n w top =

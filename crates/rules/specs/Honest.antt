@@ -87,6 +87,7 @@ module _ (H : Bytes → Bytes) (v : Version) (body T : ℕ → Bytes) (n : ℕ) 
     pub link : row v (part v p o (j + 2 ^ l)) (suc l) ≡ T j
     pub hashed : digestAt H v p o (j + 2 ^ l) ≡ T (j + 2 ^ l)
 
+  -- An honest proof has that component there, with the link and the hash that the rules give.
   pub met : (j l : ℕ) (ls : List ℕ) (pre : Bytes) (o : ℕ) → length pre ≡ o → Rides j (l ∷ ls) → end j (l ∷ ls) ≤ n
       → Met j l (pre ++ components body T (after j (l ∷ ls))) o
   met j l ls pre o e r h =

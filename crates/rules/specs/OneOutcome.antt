@@ -20,10 +20,11 @@ one-outcome told name named o x y ex ey = sym (named x) ∙ ap name (ex ∙ sym 
 abbrev pub OneOf : {B : Type 0} → B → Type 0
 OneOf {B} o = One {A = B} {B = B} (λ x. x) o
 
+-- Of the outcomes themselves there is one.
 pub one-of : {B : Type 0} (o : B) → OneOf o
 one-of o = one-outcome (λ x. x) (λ x. x) (λ x. refl) o
 
--- ---- call by call
+-- ---- call by call: the answer, and what lent memory holds after it
 
 module _ (H : Bytes → Bytes) (v : Version) where
   pub start-one : (s : Bytes) (log : ℕ) → OneOf (startCall v s log)

@@ -20,13 +20,14 @@ half-first n c = ap (λ (x : ℕ). n / x) (pow-succ' 2 c) ∙ sym (div-div-eq-di
 pub half-pow : (h c q : ℕ) → q ≡ h * 2 → h * 2 ^ suc c ≡ q * 2 ^ c
 half-pow h c q e = rw (e, pow-suc) (omega arith)
 
--- what the parity of q says of q and of suc q
+-- what is known of an odd q and the number behind it
 pub record Odd (q : ℕ) : Type 0 where
   pub here : odd q ≡ true
   pub next : odd (suc q) ≡ false
   pub half : suc q / 2 ≡ suc (q / 2)
   pub twice : suc q ≡ suc (q / 2) * 2
 
+-- and of an even one
 pub record Even (q : ℕ) : Type 0 where
   pub here : odd q ≡ false
   pub next : odd (suc q) ≡ true
@@ -41,6 +42,7 @@ is-odd q e = let h = eqb-true (q % 2) 1 e in record { here = e; next = ne-eqb (s
 pub is-even : (q : ℕ) → odd q ≡ false → Even q
 is-even q e = let h : q % 2 ≢ 1 = eqb-false (q % 2) 1 e in record { here = e; next = eq-eqb (suc q % 2) 1 (omega arith); half = omega arith; twice = omega arith }
 
+-- Every q is odd or even.
 pub parity : (q : ℕ) → Odd q ⊎ Even q
 parity q = go (odd q) refl
   where

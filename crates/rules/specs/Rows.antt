@@ -22,10 +22,12 @@ use Rattle.rules.specs.Parity.{halve, half-first, half-pow, Odd, Even, p
 
 -- ---- the rows of a basis by q, which is n in steps of 2 ^ c
 
+-- k rows from level c up
 abbrev pub rowsAt : (ℕ → Bytes) → ℕ → ℕ → ℕ → List Bytes
 rowsAt T c q zero = []
 rowsAt T c q (suc k) = cond (odd q) (T (q / 2 * 2 ^ suc c)) zeros ∷ rowsAt T (suc c) (q / 2) k
 
+-- The rows of a basis are these.
 pub basis-rows : (T : ℕ → Bytes) (n k c : ℕ) → basis T n c k ≡ rowsAt T c (n / 2 ^ c) k
 unfolding basis
 basis-rows T n zero c = refl

@@ -15,11 +15,10 @@ use Rattle.lists.specs.Same.{same-true, same-false}
 use Rattle.rules.specs.Numbers.{Version, entryLimit}
 use Rattle.rules.specs.Paths.{after, hops, path, pathAfter}
 use Rattle.rules.specs.Messages.{elementMsg, entryMsg, size, total, row, part}
-use Rattle.rules.specs.Refusals.{linkDiffers, digestDiffers}
 use Rattle.rules.specs.Checking.{accepted, digestAt, walk, member}
 use Rattle.rules.specs.Dispute.{unlike, orElse, nearest, messages, dispute}
-use Rattle.rules.specs.Acceptance.{accepts}
-use Rattle.rules.specs.Verdicts.{must-accepted, element-inj}
+use Rattle.rules.specs.Acceptance.{accepts, walk-ended, walk-hopped}
+use Rattle.rules.specs.Verdicts.{element-inj}
 use Rattle.rules.specs.Hops.{end}
 
 -- the published forms of two messages: of one element, or of two entries
@@ -73,20 +72,20 @@ module _ (H : Bytes → Bytes) (v : Version) where
       → length p ≡ o + total v (after j ls) → length q ≡ o + total v (after j ls)
       → walk H v j t ls p o D k ≡ accepted m → walk H v j u ls q o D k' ≡ accepted m'
       → Settled ((drop o p ≡ drop o q) × (t ≡ u)) (messages v p q (nearest v (after j ls) p q o))
-  unfolding walk nearest
+  unfolding nearest
   back [] j t u p q D o k m k' m' lp lq wp wq = (
     drop-of-length-le p {i = o} (omega arith) ∙ sym (drop-of-length-le q {i = o} (omega arith)),
-    same-true t D (must-accepted _ digestDiffers k m _ wp .0) ∙ sym (same-true u D (must-accepted _ digestDiffers k' m' _ wq .0)),
+    walk-ended H v j t p o D k m wp .0 ∙ sym (walk-ended H v j u q o D k' m' wq .0),
   )
   back (l ∷ ls) j t u p q D o k m k' m' lp lq wp wq =
       let i = j + 2 ^ l in
       let s = size v i in
       let r = total v (after i ls) in
-      let gp = must-accepted _ linkDiffers k m _ wp in
-      let gq = must-accepted _ linkDiffers k' m' _ wq in
+      let gp = walk-hopped H v j t l ls p o D k m wp in
+      let gq = walk-hopped H v j u l ls q o D k' m' wq in
       part-step (nearest v (after i ls) p q (o + s)) p q o i r lp lq
       (back ls i (digestAt H v p o i) (digestAt H v q o i) p q D (o + s) (suc k) m (suc k') m' (omega arith) (omega arith) (gp .1) (gq .1))
-      (λ d c. (cut p q o s d c, sym (same-true _ t (gp .0)) ∙ ap (λ (x : Bytes). row v x (suc l)) c ∙ same-true _ u (gq .0)))
+      (λ d c. (cut p q o s d c, sym (gp .0) ∙ ap (λ (x : Bytes). row v x (suc l)) c ∙ gq .0))
 
   -- THE DISPUTE THEOREM. Two membership proofs are accepted for one (i, n, digest). Where the dispute names no messages, the entries and the proofs
   -- are the same byte for byte; where it names two, they have a published form, differ, and have one hash.

@@ -34,6 +34,7 @@ module _ (H : Bytes → Bytes) (v : Version) where
     pub second-rest : drop (length two) (o .second) ≡ drop (length two) b2
     pub clash : Clash H v one two
 
+  -- how a dispute ends
   pub data Ends (e1 p1 e2 p2 b1 b2 : Bytes) (o : Disputed) : Type 0 where
     same : Same e1 p1 e2 p2 b1 b2 o → Ends e1 p1 e2 p2 b1 b2 o
     clashing : Clashing b1 b2 o → Ends e1 p1 e2 p2 b1 b2 o

@@ -83,11 +83,12 @@ module _ (v : Version) (p q : Bytes) where
 -- ---- who is refused, by the two verdicts
 
 module _ (o : Disputed) (b1 b2 : Bytes) where
-  -- "1 or 2 says which, 1 if both"
+  -- Where the first is refused, 1 is said, whatever the second is;
   pub first-refused : (x y : Verdict ℕ) → isAccepted x ≡ false → bothAccepted x y o b1 b2 ≡ disputed (denied notAccepted 1) b1 b2
   first-refused (refused num k) y e = refl
   first-refused (accepted m) y e = absurd (true≢false e)
 
+  -- where only the second is, 2.
   pub second-refused : (x y : Verdict ℕ) → isAccepted x ≡ true → isAccepted y ≡ false → bothAccepted x y o b1 b2 ≡ disputed (denied notAccepted 2) b1 b2
   second-refused (refused num k) y e f = absurd (false≢true e)
   second-refused (accepted m) (refused num k) e f = refl

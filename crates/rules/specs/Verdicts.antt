@@ -51,10 +51,11 @@ module _ (v : Version) (i n : ℕ) where
   pub upward-true : upward v i n ≡ true → (i ≤ n) × (n ≤ limit v)
   upward-true e = let h = and-eq-true-iff (leb i n) (leb n (limit v)) .0 e in (leb-true i n (h .0), leb-true n (limit v) (h .1))
 
-  -- And such numbers are taken.
+  -- Such numbers are taken,
   pub upward-test : i ≤ n → n ≤ limit v → upward v i n ≡ true
   upward-test h k = and-eq-true-iff (leb i n) (leb n (limit v)) .1 (le-leb i n h, le-leb n (limit v) k)
 
+  -- and for membership too, from 1 up.
   pub between-test : 1 ≤ i → i ≤ n → n ≤ limit v → between v i n ≡ true
   between-test l h k = and-eq-true-iff (leb 1 i) (upward v i n) .1 (le-leb 1 i l, upward-test h k)
 

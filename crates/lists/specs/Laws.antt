@@ -1,0 +1,69 @@
+-- Laws on lists that no one crate owns: a list that is filled from the front, parts of a list, and what stands behind the first i elements.
+use mathlib.Core.Path.{_≡_, refl, sym, ap, _∙_}
+use mathlib.Core.List.{List, [], _∷_, _++_, append-assoc, append-nil}
+use Prim.Native.Nat.{ℕ, zero, suc, _+_, _≤_, _<_}
+use native.Mathlib.Nat.{add-zero}
+use native.Mathlib.Numerals.{add-one}
+use native.Mathlib.Omega.{arith}
+use lib.ListN.{length, getD, take, drop, set, replicate, length-drop, drop-of-length-le}
+use lib.Seq.{sets, sets-eq, length-sets, take-at, drop-cons, take-suc, take-add, take-suc-set, getD-take, getD-drop, length-take-le}
+
+-- a store at t makes the first t elements one more
+pub take-stored : (w : List ℕ) (t x : ℕ) (p : List ℕ) → t < length w → take t w ≡ p → take (t + 1) (set w t x) ≡ p ++ (x ∷ [])
+take-stored w t x p h e = rw (add-one, take-suc-set w t x h, e)
+
+-- an element of a list whose first t elements are known
+pub getD-known : (w p : List ℕ) (t i : ℕ) → i < t → take t w ≡ p → getD w i 0 ≡ getD p i 0
+getD-known w p t i h e = sym (getD-take t w i 0 h) ∙ ap (λ (l : List ℕ). getD l i 0) e
+
+-- an element of a part, and the part's length
+pub getD-part : (n at i : ℕ) (s : List ℕ) → i < n → getD (take n (drop at s)) i 0 ≡ getD s (at + i) 0
+getD-part n at i s h = rw (getD-take, getD-drop)
+
+pub length-part : (n at : ℕ) (s : List ℕ) → at + n ≤ length s → length (take n (drop at s)) ≡ n
+length-part n at s h =
+    let r : n ≤ length (drop at s) = simp length-drop (omega arith) in
+    length-take-le n (drop at s) r
+
+-- m and the first i elements of s, one element or n elements further on
+pub further : (m s : List ℕ) (i : ℕ) → i < length s → m ++ take (i + 1) s ≡ (m ++ take i s) ++ (getD s i 0 ∷ [])
+further m s i h = rw (add-one, take-suc s i 0 h, append-assoc)
+
+pub further-by : (n : ℕ) (m s : List ℕ) (i : ℕ) → m ++ take (i + n) s ≡ (m ++ take i s) ++ take n (drop i s)
+further-by n m s i = rw (take-add, append-assoc)
+
+pub take-replicate : (k n a : ℕ) → k ≤ n → take k (replicate n a) ≡ replicate k a
+take-replicate zero n a h = refl
+take-replicate (suc k) zero a h = absurd (omega arith)
+take-replicate (suc k) (suc n) a h = ap {B = List ℕ} (λ l. a ∷ l) (take-replicate k n a (omega arith))
+
+-- a run of stores, one store further on
+pub sets-further : (l s : List ℕ) (at i : ℕ) → i < length s → sets l (at + i) (drop i s) ≡ sets (set l (at + i) (getD s i 0)) (at + (i + 1)) (drop (i + 1) s)
+sets-further l s at i h =
+    let e : at + (i + 1) ≡ suc (at + i) = omega arith in
+    rw (drop-cons s i 0 h, e, add-one i)
+
+pub sets-ended : (l s : List ℕ) (at i : ℕ) → length s ≤ i → sets l (at + i) (drop i s) ≡ l
+sets-ended l s at i h = rw (drop-of-length-le s h)
+
+-- a run of stores up to the end of a list
+pub sets-end : (l s : List ℕ) (at : ℕ) → at + length s ≡ length l → sets l at s ≡ take at l ++ s
+sets-end l s at e =
+    sets-eq s l at (omega arith)
+    ∙ ap (λ (r : List ℕ). take at l ++ s ++ r) (drop-of-length-le l {i = at + length s} (omega arith))
+    ∙ append-nil (take at l ++ s)
+
+-- two runs of stores, one after the other
+pub sets-append : (a b l : List ℕ) (at : ℕ) → sets l at (a ++ b) ≡ sets (sets l at a) (at + length a) b
+sets-append [] b l at = rw add-zero
+sets-append (x ∷ a) b l at =
+    let e : suc at + length a ≡ at + suc (length a) = omega arith in
+    sets-append a b (set l at x) (suc at) ∙ rw e
+
+-- and one over the other, up to the end of a list
+pub sets-over : (l a b : List ℕ) (at : ℕ) → at + length a ≡ length l → length b ≡ length a → sets (sets l at a) at b ≡ sets l at b
+sets-over l a b at h e =
+    let n = length-sets l at a in
+    sets-end (sets l at a) b at (omega arith)
+    ∙ ap (λ (p : List ℕ). p ++ b) (ap (take at) (sets-end l a at h) ∙ take-at (take at l) a at (length-take-le at l (omega arith)))
+    ∙ sym (sets-end l b at (omega arith))
