@@ -1,0 +1,15 @@
+-- The log's hash is SHA-256.
+use mathlib.Core.Path.{_≡_}
+use mathlib.Core.List.{List}
+use Prim.Native.Nat.{ℕ}
+use lib.ListN.{length}
+use Rattle.sha256.specs.Sha256.{sha256}
+use Rattle.sha256.specs.Lengths.{sha256-length}
+
+unfoldable pub hashOf : List ℕ → List ℕ
+hashOf m = sha256 m
+
+-- it gives 32 bytes
+pub hash-length : (m : List ℕ) → length (hashOf m) ≡ 32
+unfolding hashOf
+hash-length m = sha256-length m

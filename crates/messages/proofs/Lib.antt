@@ -1,0 +1,1 @@
+pub mod Hashed  -- what `joined` gives of a message in two parts

@@ -1,0 +1,3 @@
+pub mod Scheduling
+pub mod Feeding
+pub mod Closing
