@@ -1,0 +1,45 @@
+//! Times counting and appending on a store of full size beside a plain Rust pass over the same state
+//! bytes.
+//!
+//! The append is stopped before its last store, so that it does the same work each time: it counts, it
+//! hashes the entry and the element, and it writes 64 bytes. The store of 68 megabytes does not fit the
+//! caches, and nothing is cleared between the rounds.
+
+mod timing;
+
+use second::hash::Sha256;
+use second::store::{store_of, HEADER, RECORD, STATE};
+use second::LIMIT;
+
+const ROUNDS: usize = 21;
+
+/// The count of a store in order, by one pass over its state bytes.
+fn plain_count(store: &[u8]) -> Option<u64> {
+    let mut states = store[HEADER..].chunks_exact(RECORD).map(|record| record[STATE]);
+    let mut count = 0;
+    for state in &mut states {
+        match state {
+            1 => count += 1,
+            0 => return states.all(|state| state == 0).then(|| count),
+            _ => return None,
+        }
+    }
+    Some(count)
+}
+
+fn print(call: &str, time: timing::Timing) {
+    let [ours, plain] = [time.ours, time.plain].map(|nanoseconds| nanoseconds / 1e6);
+    println!("{:>8} {:>12.2} {:>12.2} {:>7.2}", call, ours, plain, time.ratio);
+}
+
+fn main() {
+    let before = LIMIT - 1;
+    let store = store_of::<Sha256>(7, LIMIT, (0..before).map(|_| vec![]));
+    let mut written = store.clone();
+    println!("{:>8} {:>12} {:>12} {:>7}", "call", "proved ms", "plain ms", "ratio");
+    let plain = || assert_eq!(plain_count(&store), Some(before));
+    let count = || assert_eq!(lotlog::count(&store).beside[0], before);
+    print("count", timing::side_by_side(ROUNDS, 1, count, plain));
+    let append = || assert_eq!(lotlog::append(&mut written, b"", 64).beside[0], before);
+    print("append", timing::side_by_side(ROUNDS, 1, append, plain));
+}

@@ -1,0 +1,65 @@
+//! The harness's own test: the second program agrees with itself in every group, and each faulty copy
+//! of it is noticed by its group.
+
+use std::panic;
+
+use compare::both::Both;
+use compare::faulty::{self, Faulty};
+use compare::second_calls::Second;
+use compare::{advance, hash, member, store, whole, Scale};
+
+const SEED: u64 = 4;
+const CALLS: u64 = 20_000;
+
+/// Runs each group on one fault, and collects the names of the faults that no group noticed.
+macro_rules! unnoticed {
+    ($($group:ident: $($fault:ident)*;)*) => {
+        [$($((stringify!($fault), noticed(|| {
+            let mut both = Both::<Faulty<{ faulty::$fault }>>::default();
+            $group::run(&mut both, Scale::Small)
+        })),)*)*]
+        .iter().filter(|(_, noticed)| !noticed).map(|(fault, _)| *fault).collect::<Vec<_>>()
+    };
+}
+
+fn noticed(run: impl FnOnce() + panic::UnwindSafe) -> bool {
+    panic::catch_unwind(run).is_err()
+}
+
+fn main() {
+    let mut both = Both::<Second>::default();
+    hash::run(&mut both, Scale::Small);
+    store::run(&mut both, Scale::Small);
+    member::run(&mut both, Scale::Small);
+    advance::run(&mut both, Scale::Small);
+    let target = both.calls + CALLS;
+    whole::run(&mut both, SEED, target);
+    panic::set_hook(Box::new(|_| ()));
+    let unnoticed = unnoticed! {
+        hash: PADDING_AT_55_BYTES HASHES_TOO_MUCH;
+        store: STARTS_PAST_CAPACITY TAKES_ANY_STATE_BYTE CLOSES_TOO_EARLY STOP_WRAPS
+            COUNT_BESIDE_A_REFUSAL SKIPS_EMPTY_ENTRIES NO_DIGEST_AT_0 AUDIT_NAMES_THE_LAST;
+        member: CLEARS_PAST_THE_PROOF IGNORES_A_TAIL TAKES_ANY_ENTRY NO_HOPS_WITH_11
+            NAMES_THE_SECOND_PROOF DIFFERING_NEAREST_I;
+        advance: FORGETS_THE_TOP_ROW NEVER_CHECKS_ROWS KEEPS_A_REFUSED_DIGEST ADVANCES_ONLY_FROM_1;
+        everything: PADDING_AT_55_BYTES CLOSES_TOO_EARLY IGNORES_A_TAIL NEVER_CHECKS_ROWS;
+    };
+    if !unnoticed.is_empty() {
+        eprintln!("faults that were not noticed: {}", unnoticed.join(", "));
+        std::process::exit(1);
+    }
+    println!("{} calls agree with themselves, every fault is noticed", both.calls);
+}
+
+/// The group `whole` in the shape of the others.
+mod everything {
+    use super::*;
+    use compare::calls::{AdvanceCalls, HashCalls, MemberCalls, StoreCalls};
+
+    pub fn run<C>(both: &mut Both<C>, _: Scale)
+    where
+        C: HashCalls + StoreCalls + MemberCalls + AdvanceCalls,
+    {
+        whole::run(both, SEED, CALLS);
+    }
+}

@@ -1,0 +1,26 @@
+//! Compares every call of the library with the second program's, at random: with a fixed seed and
+//! with a fresh one, or with the seed that is given as an argument.
+
+use std::env;
+
+use compare::{both::Both, library::Library, random, whole};
+
+const FIXED_SEED: u64 = 5;
+const CALLS: u64 = 150_000;
+
+fn run(seed: u64) {
+    println!("seed {}", seed);
+    let mut both = Both::<Library>::default();
+    whole::run(&mut both, seed, CALLS);
+    println!("{} calls agree", both.calls);
+}
+
+fn main() {
+    match env::args().nth(1) {
+        Some(seed) => run(seed.parse().expect("a seed is a number")),
+        None => {
+            run(FIXED_SEED);
+            run(random::fresh_seed());
+        }
+    }
+}

@@ -1,0 +1,248 @@
+//! Makes a call on both sides and compares all that can be seen of it.
+//!
+//! Each method returns what the two agreed on, so that a group can go on from there.
+
+use std::fmt::Debug;
+use std::marker::PhantomData;
+
+use lotlog::{Answer, Digest, Held, Side};
+
+use crate::calls::{AdvanceCalls, HashCalls, MemberCalls, StoreCalls};
+use crate::second_calls::Second;
+
+/// What lent memory holds before a call that is to write it.
+const BEFORE: u8 = 0xEE;
+
+const GUARD: usize = 64;
+const GUARD_BYTE: u8 = 0xA5;
+
+/// A copy of lent memory with guard bytes on both sides.
+struct Lent(Vec<u8>);
+
+impl Lent {
+    fn of(bytes: &[u8]) -> Lent {
+        let guard = [GUARD_BYTE; GUARD];
+        Lent([&guard[..], bytes, &guard].concat())
+    }
+
+    fn lend(&mut self) -> &mut [u8] {
+        let end = self.0.len() - GUARD;
+        &mut self.0[GUARD..end]
+    }
+
+    /// Lends an array; the copy was made of one of that length.
+    fn lend_array<const N: usize>(&mut self) -> &mut [u8; N] {
+        self.lend().try_into().expect("the length of the array")
+    }
+
+    /// Panics unless the memory is what is wanted and the guard bytes are untouched.
+    fn must_be(&self, wanted: &[u8], call: impl Fn() -> String) {
+        let (before, rest) = self.0.split_at(GUARD);
+        let (ours, after) = rest.split_at(rest.len() - GUARD);
+        if ours != wanted {
+            let at = ours.iter().zip(wanted).position(|(one, other)| one != other);
+            panic!("{}: lent memory differs, first at byte {:?}", call(), at);
+        }
+        if before != [GUARD_BYTE; GUARD] || after != [GUARD_BYTE; GUARD] {
+            panic!("{}: bytes beside lent memory were written", call());
+        }
+    }
+}
+
+/// A library beside the second program, and the number of calls compared so far.
+pub struct Both<C> {
+    pub calls: u64,
+    library: PhantomData<C>,
+}
+
+impl<C> Default for Both<C> {
+    fn default() -> Self {
+        Both { calls: 0, library: PhantomData }
+    }
+}
+
+impl<C> Both<C> {
+    /// Counts the call and panics unless both sides answered alike.
+    fn agree<T: PartialEq + Debug>(&mut self, ours: T, wanted: T, call: impl Fn() -> String) {
+        self.calls += 1;
+        if ours != wanted {
+            panic!("{}: {:?}, where the second program has {:?}", call(), ours, wanted);
+        }
+    }
+}
+
+impl<C: HashCalls> Both<C> {
+    pub fn hash(&mut self, message: &[u8]) -> (u64, Digest) {
+        let mut wanted = [BEFORE; 32];
+        let mut ours = Lent::of(&wanted);
+        let number = C::hash(message, ours.lend_array());
+        let wanted_number = Second::hash(message, &mut wanted);
+        let call = || format!("hash of {} bytes", message.len());
+        self.agree(number, wanted_number, call);
+        ours.must_be(&wanted, call);
+        (wanted_number, wanted)
+    }
+}
+
+impl<C: StoreCalls> Both<C> {
+    pub fn start(&mut self, store: &mut [u8], log: u64) -> u64 {
+        let mut ours = Lent::of(store);
+        let number = C::start(ours.lend(), log);
+        let wanted = Second::start(store, log);
+        let call = || format!("start of {} bytes, log {}", store.len(), log);
+        self.agree(number, wanted, call);
+        ours.must_be(store, call);
+        wanted
+    }
+
+    pub fn count(&mut self, store: &[u8]) -> Answer {
+        let wanted = Second::count(store);
+        self.agree(C::count(store), wanted, || format!("count of {} bytes", store.len()));
+        wanted
+    }
+
+    pub fn append(&mut self, store: &mut [u8], entry: &[u8], stop: u64) -> Answer {
+        let mut ours = Lent::of(store);
+        let answer = C::append(ours.lend(), entry, stop);
+        let wanted = Second::append(store, entry, stop);
+        let call = || {
+            let (room, length) = (store.len(), entry.len());
+            format!("append to {} bytes, entry of {}, stop {}", room, length, stop)
+        };
+        self.agree(answer, wanted, call);
+        ours.must_be(store, call);
+        wanted
+    }
+
+    pub fn digest_at(&mut self, store: &[u8], at: u64) -> (u64, Digest) {
+        let mut wanted = [BEFORE; 32];
+        let mut ours = Lent::of(&wanted);
+        let number = C::digest_at(store, at, ours.lend_array());
+        let wanted_number = Second::digest_at(store, at, &mut wanted);
+        let call = || format!("digest at {} of {} bytes", at, store.len());
+        self.agree(number, wanted_number, call);
+        ours.must_be(&wanted, call);
+        (wanted_number, wanted)
+    }
+
+    pub fn audit(&mut self, store: &[u8]) -> Answer {
+        let wanted = Second::audit(store);
+        self.agree(C::audit(store), wanted, || format!("audit of {} bytes", store.len()));
+        wanted
+    }
+}
+
+impl<C: MemberCalls> Both<C> {
+    /// Builds into an output of `room` bytes.
+    pub fn build_membership(&mut self, store: &[u8], i: u64, n: u64, room: usize) -> Answer {
+        let mut wanted = vec![BEFORE; room];
+        let mut ours = Lent::of(&wanted);
+        let answer = C::build_membership(store, i, n, ours.lend());
+        let wanted_answer = Second::build_membership(store, i, n, &mut wanted);
+        let call = || format!("membership ({}, {}) from {} bytes", i, n, store.len());
+        self.agree(answer, wanted_answer, call);
+        ours.must_be(&wanted, call);
+        wanted_answer
+    }
+
+    pub fn check_membership(
+        &mut self,
+        entry: &[u8],
+        i: u64,
+        n: u64,
+        digest: &Digest,
+        proof: &[u8],
+    ) -> Answer {
+        let answer = C::check_membership(entry, i, n, digest, proof);
+        let wanted = Second::check_membership(entry, i, n, digest, proof);
+        self.agree(answer, wanted, || {
+            let (length, bytes) = (entry.len(), proof.len());
+            format!("check of ({}, {}), entry of {}, proof of {}", i, n, length, bytes)
+        });
+        wanted
+    }
+
+    /// Settles a dispute with two buffers of these lengths.
+    pub fn dispute(
+        &mut self,
+        sides: [Side; 2],
+        i: u64,
+        n: u64,
+        digest: &Digest,
+        rooms: [usize; 2],
+    ) -> Answer {
+        let [mut first, mut second] = rooms.map(|room| vec![BEFORE; room]);
+        let (mut our_first, mut our_second) = (Lent::of(&first), Lent::of(&second));
+        let answer = C::dispute(sides, i, n, digest, [our_first.lend(), our_second.lend()]);
+        let wanted = Second::dispute(sides, i, n, digest, [&mut first, &mut second]);
+        let call = || format!("dispute over ({}, {}), rooms of {:?}", i, n, rooms);
+        self.agree(answer, wanted, call);
+        our_first.must_be(&first, call);
+        our_second.must_be(&second, call);
+        wanted
+    }
+
+    pub fn differing(&mut self, first: &[u8], second: &[u8], i: u64, n: u64) -> Answer {
+        let answer = C::differing(first, second, i, n);
+        let wanted = Second::differing(first, second, i, n);
+        self.agree(answer, wanted, || {
+            let lengths = (first.len(), second.len());
+            format!("differing part for ({}, {}), proofs of {:?}", i, n, lengths)
+        });
+        wanted
+    }
+}
+
+impl<C: AdvanceCalls> Both<C> {
+    pub fn held_at(&mut self, store: &[u8], at: u64) -> (u64, Held) {
+        let mut wanted = [BEFORE; 688];
+        let mut ours = Lent::of(&wanted);
+        let number = C::held_at(store, at, ours.lend_array());
+        let wanted_number = Second::held_at(store, at, &mut wanted);
+        let call = || format!("held state at {} of {} bytes", at, store.len());
+        self.agree(number, wanted_number, call);
+        ours.must_be(&wanted, call);
+        (wanted_number, wanted)
+    }
+
+    pub fn held_start(&mut self, log: u64) -> Held {
+        let mut wanted = [BEFORE; 688];
+        let mut ours = Lent::of(&wanted);
+        let number = C::held_start(log, ours.lend_array());
+        let wanted_number = Second::held_start(log, &mut wanted);
+        let call = || format!("held state at the start of log {}", log);
+        self.agree(number, wanted_number, call);
+        ours.must_be(&wanted, call);
+        wanted
+    }
+
+    /// Builds into an output of `room` bytes.
+    pub fn build_advancement(&mut self, store: &[u8], i: u64, n: u64, room: usize) -> Answer {
+        let mut wanted = vec![BEFORE; room];
+        let mut ours = Lent::of(&wanted);
+        let answer = C::build_advancement(store, i, n, ours.lend());
+        let wanted_answer = Second::build_advancement(store, i, n, &mut wanted);
+        let call = || format!("advancement {} to {} from {} bytes", i, n, store.len());
+        self.agree(answer, wanted_answer, call);
+        ours.must_be(&wanted, call);
+        wanted_answer
+    }
+
+    /// Advances; returns the answer and the state handed back.
+    pub fn check_advancement(
+        &mut self,
+        held: &Held,
+        n: u64,
+        digest: &Digest,
+        proof: &[u8],
+    ) -> (Answer, Held) {
+        let mut wanted = *held;
+        let mut ours = Lent::of(held);
+        let answer = C::check_advancement(ours.lend_array(), n, digest, proof);
+        let wanted_answer = Second::check_advancement(&mut wanted, n, digest, proof);
+        let call = || format!("advancing to {}, proof of {} bytes", n, proof.len());
+        self.agree(answer, wanted_answer, call);
+        ours.must_be(&wanted, call);
+        (wanted_answer, wanted)
+    }
+}

@@ -1,0 +1,33 @@
+//! The calls of the library as traits, one for each group in which they are compared.
+
+use lotlog::{Answer, Digest, Held, Side};
+
+/// Hashing.
+pub trait HashCalls {
+    fn hash(message: &[u8], digest: &mut Digest) -> u64;
+}
+
+/// Keeping a store.
+pub trait StoreCalls {
+    fn start(store: &mut [u8], log: u64) -> u64;
+    fn count(store: &[u8]) -> Answer;
+    fn append(store: &mut [u8], entry: &[u8], stop: u64) -> Answer;
+    fn digest_at(store: &[u8], at: u64, digest: &mut Digest) -> u64;
+    fn audit(store: &[u8]) -> Answer;
+}
+
+/// Membership: building, checking, disputes.
+pub trait MemberCalls {
+    fn build_membership(store: &[u8], i: u64, n: u64, out: &mut [u8]) -> Answer;
+    fn check_membership(entry: &[u8], i: u64, n: u64, digest: &Digest, proof: &[u8]) -> Answer;
+    fn dispute(sides: [Side; 2], i: u64, n: u64, digest: &Digest, out: [&mut [u8]; 2]) -> Answer;
+    fn differing(first: &[u8], second: &[u8], i: u64, n: u64) -> Answer;
+}
+
+/// Held states and advancement.
+pub trait AdvanceCalls {
+    fn held_at(store: &[u8], at: u64, held: &mut Held) -> u64;
+    fn held_start(log: u64, held: &mut Held) -> u64;
+    fn build_advancement(store: &[u8], i: u64, n: u64, out: &mut [u8]) -> Answer;
+    fn check_advancement(held: &mut Held, n: u64, digest: &Digest, proof: &[u8]) -> Answer;
+}

@@ -1,0 +1,89 @@
+//! The proved library behind the traits.
+//!
+//! The methods are `#[inline]` as those of `lotlog` are, so a program of one group links with a
+//! library that has that group's calls alone.
+
+use lotlog::{Answer, Digest, Held, Side};
+
+use crate::calls::{AdvanceCalls, HashCalls, MemberCalls, StoreCalls};
+
+/// The proved library.
+pub enum Library {}
+
+impl HashCalls for Library {
+    #[inline]
+    fn hash(message: &[u8], digest: &mut Digest) -> u64 {
+        lotlog::hash(message, digest)
+    }
+}
+
+impl StoreCalls for Library {
+    #[inline]
+    fn start(store: &mut [u8], log: u64) -> u64 {
+        lotlog::start(store, log)
+    }
+
+    #[inline]
+    fn count(store: &[u8]) -> Answer {
+        lotlog::count(store)
+    }
+
+    #[inline]
+    fn append(store: &mut [u8], entry: &[u8], stop: u64) -> Answer {
+        lotlog::append(store, entry, stop)
+    }
+
+    #[inline]
+    fn digest_at(store: &[u8], at: u64, digest: &mut Digest) -> u64 {
+        lotlog::digest_at(store, at, digest)
+    }
+
+    #[inline]
+    fn audit(store: &[u8]) -> Answer {
+        lotlog::audit(store)
+    }
+}
+
+impl MemberCalls for Library {
+    #[inline]
+    fn build_membership(store: &[u8], i: u64, n: u64, out: &mut [u8]) -> Answer {
+        lotlog::build_membership(store, i, n, out)
+    }
+
+    #[inline]
+    fn check_membership(entry: &[u8], i: u64, n: u64, digest: &Digest, proof: &[u8]) -> Answer {
+        lotlog::check_membership(entry, i, n, digest, proof)
+    }
+
+    #[inline]
+    fn dispute(sides: [Side; 2], i: u64, n: u64, digest: &Digest, out: [&mut [u8]; 2]) -> Answer {
+        lotlog::dispute(sides, i, n, digest, out)
+    }
+
+    #[inline]
+    fn differing(first: &[u8], second: &[u8], i: u64, n: u64) -> Answer {
+        lotlog::differing(first, second, i, n)
+    }
+}
+
+impl AdvanceCalls for Library {
+    #[inline]
+    fn held_at(store: &[u8], at: u64, held: &mut Held) -> u64 {
+        lotlog::held_at(store, at, held)
+    }
+
+    #[inline]
+    fn held_start(log: u64, held: &mut Held) -> u64 {
+        lotlog::held_start(log, held)
+    }
+
+    #[inline]
+    fn build_advancement(store: &[u8], i: u64, n: u64, out: &mut [u8]) -> Answer {
+        lotlog::build_advancement(store, i, n, out)
+    }
+
+    #[inline]
+    fn check_advancement(held: &mut Held, n: u64, digest: &Digest, proof: &[u8]) -> Answer {
+        lotlog::check_advancement(held, n, digest, proof)
+    }
+}

@@ -1,0 +1,128 @@
+//! The second program behind the traits: its results as numbers and lent memory.
+
+use lotlog::{Answer, Digest, Held, Side};
+use second::dispute::{self, Found};
+use second::hash::{self, Sha256};
+use second::refusal;
+use second::{held, proof, store};
+
+use crate::calls::{AdvanceCalls, HashCalls, MemberCalls, StoreCalls};
+
+/// The second program.
+pub enum Second {}
+
+/// A refusal says one number, and 0 in the other places.
+fn numbers(result: refusal::Answer<[u64; 3]>) -> Answer {
+    match result {
+        Ok(beside) => Answer { number: 0, beside },
+        Err(refused) => Answer { number: refused.number, beside: [refused.beside, 0, 0] },
+    }
+}
+
+fn one_number(result: refusal::Answer<u64>) -> Answer {
+    numbers(result.map(|number| [number, 0, 0]))
+}
+
+/// A value goes to lent memory; a refusal leaves that as it was.
+fn lent<T>(result: refusal::Answer<T>, place: &mut T) -> u64 {
+    match result {
+        Ok(value) => {
+            *place = value;
+            0
+        }
+        Err(refused) => refused.number,
+    }
+}
+
+/// The 688 bytes of a held state: "log number, count (8 bytes each, big-endian), digest, 20 rows".
+pub fn held_bytes(held: &held::Held) -> Held {
+    let parts =
+        [&held.log.to_be_bytes()[..], &held.count.to_be_bytes(), &held.digest, &held.rows.concat()];
+    parts.concat().try_into().expect("688 bytes")
+}
+
+/// The held state of 688 bytes.
+fn held_of_bytes(bytes: &Held) -> held::Held {
+    let number = |at: usize| u64::from_be_bytes(bytes[at..at + 8].try_into().expect("8 bytes"));
+    let digest = |at: usize| -> Digest { bytes[at..at + 32].try_into().expect("32 bytes") };
+    let mut rows = [[0; 32]; held::ROWS];
+    for (row, place) in rows.iter_mut().zip((48..).step_by(32)) {
+        *row = digest(place);
+    }
+    held::Held { log: number(0), count: number(8), digest: digest(16), rows }
+}
+
+impl HashCalls for Second {
+    fn hash(message: &[u8], digest: &mut Digest) -> u64 {
+        lent(hash::hash::<Sha256>(message), digest)
+    }
+}
+
+impl StoreCalls for Second {
+    fn start(store: &mut [u8], log: u64) -> u64 {
+        lent(store::start(store, log), &mut ())
+    }
+
+    fn count(store: &[u8]) -> Answer {
+        one_number(store::count(store))
+    }
+
+    fn append(store: &mut [u8], entry: &[u8], stop: u64) -> Answer {
+        one_number(store::append::<Sha256>(store, entry, stop))
+    }
+
+    fn digest_at(store: &[u8], at: u64, digest: &mut Digest) -> u64 {
+        lent(store::digest_at::<Sha256>(store, at), digest)
+    }
+
+    fn audit(store: &[u8]) -> Answer {
+        one_number(store::audit::<Sha256>(store))
+    }
+}
+
+impl MemberCalls for Second {
+    fn build_membership(store: &[u8], i: u64, n: u64, out: &mut [u8]) -> Answer {
+        one_number(proof::build_membership::<Sha256>(store, i, n, out))
+    }
+
+    fn check_membership(entry: &[u8], i: u64, n: u64, digest: &Digest, proof: &[u8]) -> Answer {
+        one_number(proof::check_membership::<Sha256>(entry, i, n, digest, proof))
+    }
+
+    fn dispute(sides: [Side; 2], i: u64, n: u64, digest: &Digest, out: [&mut [u8]; 2]) -> Answer {
+        let sides = sides.map(|side| dispute::Side { entry: side.entry, proof: side.proof });
+        numbers(dispute::dispute::<Sha256>(sides, i, n, digest, out).map(|found| match found {
+            Found::Same => [1, 0, 0],
+            Found::Messages(first, second) => [0, first, second],
+        }))
+    }
+
+    fn differing(first: &[u8], second: &[u8], i: u64, n: u64) -> Answer {
+        let part = dispute::differing(first, second, i, n);
+        numbers(Ok([part.start as u64, part.len() as u64, 0]))
+    }
+}
+
+impl AdvanceCalls for Second {
+    fn held_at(store: &[u8], at: u64, held: &mut Held) -> u64 {
+        lent(held::held_at::<Sha256>(store, at).map(|state| held_bytes(&state)), held)
+    }
+
+    fn held_start(log: u64, held: &mut Held) -> u64 {
+        lent(Ok(held_bytes(&held::held_start::<Sha256>(log))), held)
+    }
+
+    fn build_advancement(store: &[u8], i: u64, n: u64, out: &mut [u8]) -> Answer {
+        one_number(proof::build_advancement::<Sha256>(store, i, n, out))
+    }
+
+    fn check_advancement(held: &mut Held, n: u64, digest: &Digest, proof: &[u8]) -> Answer {
+        let before = held_of_bytes(held);
+        one_number(held::check_advancement::<Sha256>(&before, n, digest, proof).map(
+            |(hops, after)| {
+                *held = held_bytes(&after);
+                hops
+            },
+        ))
+    }
+}

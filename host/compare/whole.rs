@@ -1,0 +1,230 @@
+//! The group `whole`: every call, picked at random, on sound and damaged input of every length.
+
+use lotlog::Side;
+use second::dispute::BUFFER_LEAST;
+use second::hash::HASH_MOST;
+use second::path::{advancement, membership, proof_length};
+use second::store::{Log, HEADER, RECORD, STATE};
+use second::ENTRY_MOST;
+
+use crate::advance::Step;
+use crate::both::Both;
+use crate::calls::{AdvanceCalls, HashCalls, MemberCalls, StoreCalls};
+use crate::damage::spoiled;
+use crate::logs::{read, sound};
+use crate::member::Claim;
+use crate::random::Random;
+
+/// The lengths of the logs that the calls work on. They leave room for elements, or do not.
+const LOGS: [(u64, u64); 9] =
+    [(0, 0), (0, 1), (1, 2), (7, 1), (8, 8), (40, 0), (100, 3), (1_000, 1), (4_500, 0)];
+
+/// Makes so many random calls.
+pub fn run<C>(both: &mut Both<C>, seed: u64, calls: u64)
+where
+    C: HashCalls + StoreCalls + MemberCalls + AdvanceCalls,
+{
+    let stores = LOGS.map(|(elements, room)| sound(elements, room));
+    let mut random = Random::new(seed);
+    while both.calls < calls {
+        let store = &stores[random.place(stores.len())];
+        match random.below(24) {
+            0 => hash(both, &mut random),
+            1 => start(both, store, &mut random),
+            2 | 3 => look(both, store, &mut random),
+            4 | 5 => append(both, store, &mut random),
+            6 | 7 => build_membership(both, store, &mut random),
+            8 | 9 => build_advancement(both, store, &mut random),
+            10..=14 => check_membership(both, store, &mut random),
+            15..=19 => check_advancement(both, store, &mut random),
+            _ => dispute(both, store, &mut random),
+        }
+    }
+}
+
+/// The bytes as they are, or spoiled once in so many times.
+fn maybe_spoiled(bytes: &[u8], once_in: u64, random: &mut Random) -> Vec<u8> {
+    if random.once_in(once_in) {
+        spoiled(bytes, random)
+    } else {
+        bytes.to_vec()
+    }
+}
+
+/// An array as it is, or with one byte changed once in so many times.
+fn maybe_changed<const N: usize>(bytes: [u8; N], once_in: u64, random: &mut Random) -> [u8; N] {
+    let mut changed = bytes;
+    if random.once_in(once_in) {
+        changed[random.place(N)] ^= random.between(1, 255) as u8;
+    }
+    changed
+}
+
+/// A store as it is or damaged: in its header, in a state byte, in a record, or in its length.
+fn maybe_damaged(store: &[u8], random: &mut Random) -> Vec<u8> {
+    let mut store = store.to_vec();
+    let records = (store.len() - HEADER) / RECORD;
+    match random.below(12) {
+        0 => store[random.place(HEADER)] ^= 1 << random.below(8),
+        1 if records > 0 => {
+            let state = HEADER + RECORD * random.place(records) + STATE;
+            store[state] = [0, 1, 2, 255][random.place(4)];
+        }
+        2 | 3 if records > 0 => {
+            let at = HEADER + random.place(RECORD * records);
+            store[at] ^= 1 << random.below(8);
+        }
+        4 => store.truncate(random.place(store.len() + 1)),
+        5 => store.extend(random.bytes(RECORD)),
+        _ => (),
+    }
+    store
+}
+
+/// A number that the log holds, if it holds any.
+fn held_number(log: &Log, random: &mut Random) -> u64 {
+    random.between(0, log.count)
+}
+
+/// An output's room: enough and more, or too little once in four times.
+fn room(length: usize, random: &mut Random) -> usize {
+    if random.once_in(4) {
+        random.place(length + 1)
+    } else {
+        length + random.place(40)
+    }
+}
+
+fn some_entry(random: &mut Random) -> Vec<u8> {
+    let length = match random.below(16) {
+        0 => 0,
+        1 => ENTRY_MOST,
+        2 => ENTRY_MOST + 1,
+        _ => random.of_any_size(ENTRY_MOST as u64) as usize,
+    };
+    random.bytes(length)
+}
+
+fn hash<C: HashCalls>(both: &mut Both<C>, random: &mut Random) {
+    let length = match random.below(40) {
+        0 => random.between(HASH_MOST - 2, HASH_MOST + 2),
+        1 => random.of_any_size(HASH_MOST),
+        _ => random.below(2_000),
+    };
+    let message = random.bytes(length as usize);
+    both.hash(&message);
+}
+
+fn start<C: StoreCalls>(both: &mut Both<C>, store: &[u8], random: &mut Random) {
+    let mut store = maybe_damaged(store, random);
+    let log = random.next();
+    both.start(&mut store, random.number_near(log));
+}
+
+fn look<C: StoreCalls + AdvanceCalls>(both: &mut Both<C>, store: &[u8], random: &mut Random) {
+    let at = held_number(&read(store), random);
+    let at = random.number_near(at);
+    let store = maybe_damaged(store, random);
+    match random.below(8) {
+        0 | 1 => both.digest_at(&store, at).0,
+        2 | 3 => both.held_at(&store, at).0,
+        4 | 5 => both.count(&store).number,
+        6 => both.audit(&store).number,
+        _ => u64::from(both.held_start(at)[0]),
+    };
+}
+
+fn append<C: StoreCalls>(both: &mut Both<C>, store: &[u8], random: &mut Random) {
+    let mut store = maybe_damaged(store, random);
+    for _ in 0..3 {
+        let stop = random.between(0, 70);
+        let stop = random.number_near(stop);
+        let entry = some_entry(random);
+        both.append(&mut store, &entry, stop);
+    }
+}
+
+fn build_membership<C: MemberCalls>(both: &mut Both<C>, store: &[u8], random: &mut Random) {
+    let n = held_number(&read(store), random);
+    let (i, n) = (random.between(0, n), random.number_near(n));
+    let i = random.number_near(i);
+    let length = membership(i, n).map_or(100, |path| proof_length(&path));
+    let room = room(length, random);
+    both.build_membership(&maybe_damaged(store, random), i, n, room);
+}
+
+fn build_advancement<C: AdvanceCalls>(both: &mut Both<C>, store: &[u8], random: &mut Random) {
+    let n = held_number(&read(store), random);
+    let (i, n) = (random.between(0, n), random.number_near(n));
+    let i = random.number_near(i);
+    let length = advancement(i, n).map_or(100, |path| proof_length(&path));
+    let room = room(length, random);
+    both.build_advancement(&maybe_damaged(store, random), i, n, room);
+}
+
+/// An honest claim on a log that is not empty.
+fn some_claim(store: &[u8], random: &mut Random) -> Option<Claim> {
+    let log = read(store);
+    if log.count == 0 {
+        return None;
+    }
+    let n = random.between(1, log.count);
+    Some(Claim::honest(&log, random.between(1, n), n))
+}
+
+fn check_membership<C: MemberCalls>(both: &mut Both<C>, store: &[u8], random: &mut Random) {
+    let honest = match some_claim(store, random) {
+        Some(claim) => claim,
+        None => return,
+    };
+    honest.check(both);
+    let entry = if random.once_in(6) {
+        some_entry(random)
+    } else {
+        maybe_spoiled(&honest.entry, 6, random)
+    };
+    let other_numbers = random.once_in(4);
+    let [i, n] =
+        [honest.i, honest.n]
+            .map(|number| if other_numbers { random.number_near(number) } else { number });
+    let digest = maybe_changed(honest.digest, 6, random);
+    let proof = maybe_spoiled(&honest.proof, 2, random);
+    Claim { entry, i, n, digest, proof }.check(both);
+}
+
+fn check_advancement<C: AdvanceCalls>(both: &mut Both<C>, store: &[u8], random: &mut Random) {
+    let log = read(store);
+    let n = held_number(&log, random);
+    let honest = Step::honest(&log, random.between(0, n), n);
+    honest.check(both);
+    let held = maybe_changed(honest.held, 3, random);
+    let n = if random.once_in(4) { random.number_near(n) } else { n };
+    let digest = maybe_changed(honest.digest, 6, random);
+    let proof = maybe_spoiled(&honest.proof, 2, random);
+    Step { held, n, digest, proof }.check(both);
+}
+
+fn dispute<C: MemberCalls>(both: &mut Both<C>, store: &[u8], random: &mut Random) {
+    let honest = match some_claim(store, random) {
+        Some(claim) => claim,
+        None => return,
+    };
+    let [first_entry, second_entry] = [(); 2].map(|_| maybe_spoiled(&honest.entry, 8, random));
+    let [first_proof, second_proof] = [(); 2].map(|_| maybe_spoiled(&honest.proof, 4, random));
+    let first = Side { entry: &first_entry, proof: &first_proof };
+    let second = Side { entry: &second_entry, proof: &second_proof };
+    let other_numbers = random.once_in(6);
+    let [i, n] =
+        [honest.i, honest.n]
+            .map(|number| if other_numbers { random.number_near(number) } else { number });
+    let digest = maybe_changed(honest.digest, 10, random);
+    let rooms = [(); 2].map(|_| {
+        if random.once_in(10) {
+            random.place(BUFFER_LEAST)
+        } else {
+            BUFFER_LEAST + random.place(40)
+        }
+    });
+    both.dispute([first, second], i, n, &digest, rooms);
+    both.differing(&first_proof, &second_proof, i, n);
+}

@@ -1,0 +1,71 @@
+# How the host side is built and run on this machine. For bash; source it at the top of the repository.
+#
+# The proved library is for x86-64 Linux. On another processor the programs that link it are built for
+# x86-64 all the same, and run under an emulator. Everything is compiled for release and for the common
+# x86-64 processor without extensions, which is what `rt staticlib` compiles for.
+
+# Products go here. `rt ci` removes target/, so nothing that is still wanted lies there.
+build=build
+
+# The crate whose calls the host programs link, its archive, and the programs that are tested from here.
+library=lotlog
+archive=$build/lib$library.a
+programs=(lot_audit)
+
+rust_flags=(--edition 2021 -C opt-level=3 -C target-cpu=x86-64 -L "$build")
+
+if [ "$(uname -m)" = x86_64 ]; then
+    rustc=${RUSTC:-rustc}
+    cc=cc
+    emulator=()
+else
+    # the packaged compiler, which finds the packaged standard library for x86-64
+    rustc=${RUSTC:-/usr/bin/rustc}
+    cc=x86_64-linux-gnu-gcc
+    emulator=(qemu-x86_64)
+    rust_flags+=(--target x86_64-unknown-linux-gnu -C linker="$cc"
+        -C target-feature=+crt-static -C relocation-model=static)
+fi
+
+# Runs a program for x86-64.
+run() { "${emulator[@]}" "$@"; }
+
+# Whether a product is there and newer than every file below the paths given.
+is_fresh() { # PRODUCT PATH..
+    [ -e "$1" ] && [ -z "$(find "${@:2}" -newer "$1" -print -quit)" ]
+}
+
+# Sets `externs` to the words that let a crate use others.
+use_crates() { # CRATE..
+    local crate
+    externs=()
+    for crate in "$@"; do externs+=(--extern "$crate=$build/lib$crate.rlib"); done
+}
+
+# Builds a Rust library, build/libNAME.rlib, unless it is newer than all of host/.
+rust_library() { # NAME SOURCE [CRATE..]
+    is_fresh "$build/lib$1.rlib" host && return
+    use_crates "${@:3}"
+    mkdir -p "$build"
+    "$rustc" "${rust_flags[@]}" --crate-type rlib --crate-name "$1" "${externs[@]}" -o "$build/lib$1.rlib" "$2"
+}
+
+# Builds a Rust program, build/NAME.
+rust_program() { # NAME SOURCE [CRATE..]
+    use_crates "${@:3}"
+    mkdir -p "$build"
+    "$rustc" "${rust_flags[@]}" "${externs[@]}" -o "$build/$1" "$2"
+}
+
+# Builds the tests of a Rust library, build/NAME.
+rust_tests() { # NAME SOURCE [CRATE..]
+    rust_flags+=(--test)
+    rust_program "$@"
+}
+
+# Builds a Rust program that calls the proved library, build/NAME.
+linked_program() { # NAME SOURCE [CRATE..]
+    [ -e "$archive" ] || { echo "$archive is missing: host/run library makes it" >&2; return 1; }
+    rust_flags+=(-C link-arg="$archive")
+    rust_program "$@"
+}

@@ -1,0 +1,55 @@
+//! Prints figures of a small log as the second program computes them, one `NAME HEX` to a line.
+//!
+//! The log has number 7 and three entries: the empty one, "A", and the 33 bytes from 0x61 upward. Its
+//! figures stand in figures.txt, first under the stand-in hash and then under SHA-256, so that the
+//! definitions of the proofs can be held to values from outside. Rows of the held state that are not
+//! printed are zero.
+
+use second::hash::{Hash, Sha256, Xor};
+use second::held::held_of;
+use second::message::entry_digest;
+use second::path::{advancement, membership};
+use second::proof::proof_of;
+use second::store::{store_of, Log};
+
+const LOG: u64 = 7;
+const LAST: u64 = 3;
+
+fn entries() -> [Vec<u8>; 3] {
+    [vec![], b"A".to_vec(), (0x61..=0x81).collect()]
+}
+
+fn print(name: &str, bytes: &[u8]) {
+    let hex: String = bytes.iter().map(|byte| format!("{:02x}", byte)).collect();
+    println!("{}", format!("{} {}", name, hex).trim_end());
+}
+
+fn print_log<H: Hash>(hash: &str) {
+    let store = store_of::<H>(LOG, LAST, entries().into_iter());
+    let log = Log::read(&store).expect("a sound store");
+    let print = |name: &str, bytes: &[u8]| print(&format!("{}.{}", hash, name), bytes);
+    for (j, entry) in (1..).zip(entries()) {
+        print(&format!("d({})", j), &entry_digest::<H>(&entry));
+    }
+    for j in 0..=LAST {
+        print(&format!("T({})", j), &log.digest::<H>(j));
+    }
+    print("store", &store);
+    print("membership(1,3)", &proof_of::<H>(&log, &membership(1, LAST).expect("a path")));
+    print("advancement(0,3)", &proof_of::<H>(&log, &advancement(0, LAST).expect("a path")));
+    let held = held_of::<H>(&log, LAST);
+    print("held(3).log", &held.log.to_be_bytes());
+    print("held(3).count", &held.count.to_be_bytes());
+    print("held(3).digest", &held.digest);
+    for (row, digest) in held.rows.iter().enumerate().filter(|(_, digest)| **digest != [0; 32]) {
+        print(&format!("held(3).row{}", row), digest);
+    }
+}
+
+fn main() {
+    for (j, entry) in (1..).zip(entries()) {
+        print(&format!("entry({})", j), &entry);
+    }
+    print_log::<Xor>("standin");
+    print_log::<Sha256>("sha256");
+}

@@ -1,0 +1,129 @@
+/*
+ * lotlog.h: the calls of the proved lot log, for C and for every language that calls C.
+ *
+ * Link the archive that `rt staticlib lotlog` writes. It is for x86-64 Linux and needs no other
+ * library. No call allocates, keeps a pointer or touches anything but what it is lent.
+ *
+ * Every call returns a number of document 01: 0 for done, else the refusal.
+ *
+ *    1  store under 16 bytes, wrong header, or damage in the state bytes or their order
+ *    2  held state over the limit, a free row not zero, or count 0 with a digest that is not T(0)
+ *    3  entry over 4,096 bytes; message over 65,536 bytes
+ *    4  no such position or length
+ *    5  no open record, or the log is full
+ *    6  lent output too short
+ *    7  proof length not that of the path
+ *    8  first d is not the entry's
+ *    9  basis row differs
+ *   10  link differs
+ *   11  last digest differs
+ *   12  audit: an element's T is wrong
+ *   13  dispute: a proof is not accepted
+ *
+ * Lent memory. A refused call leaves every store, digest, held state, output and buffer as it was.
+ * `answer` is no lent memory in that sense: it is written whole by each call that takes it, with 0
+ * where nothing is to be said.
+ *
+ * A caller must see to three things that C does not check: a pointer with a length n is good for n
+ * bytes, also where n is 0 (then any pointer but NULL will do); a `uint8_t x[32]` is good for 32
+ * bytes; and memory that a call may write is not lent to it twice.
+ *
+ * Layouts, all numbers big-endian:
+ *   store       16 bytes: "LOT", version 1 (2), three zero bytes, log number (8);
+ *               then records of 65 bytes: d (32), T (32), state byte (0 open, 1 closed)
+ *   held state  688 bytes: log number (8), count (8), digest (32), 20 rows of 32 bytes
+ *   component   of element j with f trailing zero bits: d, T(j-1), T(j-2), T(j-4) .. T(j-2^f)
+ *   proof       membership (i, n): the components of the path from i to n, both included;
+ *               advancement: the same without i
+ */
+#ifndef LOTLOG_H
+#define LOTLOG_H
+
+#include <stddef.h>
+#include <stdint.h>
+
+#ifdef __cplusplus
+extern "C" {
+#endif
+
+#define LOT_DIGEST_BYTES 32
+#define LOT_HELD_BYTES 688
+#define LOT_ANSWER_NUMBERS 3
+#define LOT_ENTRY_MOST 4096       /* the longest entry, in bytes */
+#define LOT_HASH_MOST 65536       /* the longest message of lot_hash, in bytes */
+#define LOT_ELEMENTS_MOST 1048575 /* the most elements of a log */
+#define LOT_PROOF_MOST 14048      /* the longest proof, in bytes */
+#define LOT_DISPUTE_LEAST 4097    /* the least room of a dispute's buffer, in bytes */
+
+/* SHA-256 of the message. Refusals: 3. */
+uint64_t lot_hash(const uint8_t *message, size_t message_length, uint8_t digest[32]);
+
+/* Starts a store for a log: writes the header and opens every record. What the store held is lost.
+   Refusals: 6 for a store under 16 bytes. */
+uint64_t lot_start(uint8_t *store, size_t store_length, uint64_t log);
+
+/* Counts the elements. Refusals: 1. Answer: the count. */
+uint64_t lot_count(const uint8_t *store, size_t store_length, uint64_t answer[3]);
+
+/* Appends an entry by 65 stores of one byte, the state byte last, and stops after `stop` of them; 65
+   or more is the whole append. Refusals: 1, 3, 5. Answer: the count now held. */
+uint64_t lot_append(uint8_t *store, size_t store_length, const uint8_t *entry, size_t entry_length,
+                    uint64_t stop, uint64_t answer[3]);
+
+/* Reads T(at); at = 0 gives T(0) of the log. Refusals: 1, 4. */
+uint64_t lot_digest_at(const uint8_t *store, size_t store_length, uint64_t at, uint8_t digest[32]);
+
+/* Recomputes every T from the stored d. Refusals: 1, 12. Answer: the count, or with 12 the lowest
+   element whose T is wrong. */
+uint64_t lot_audit(const uint8_t *store, size_t store_length, uint64_t answer[3]);
+
+/* Builds the membership proof for (i, n) at the start of `out`; what lies after it stays. Refusals: 1,
+   4, 6. Answer: the proof's length. */
+uint64_t lot_build_membership(const uint8_t *store, size_t store_length, uint64_t i, uint64_t n,
+                              uint8_t *out, size_t out_length, uint64_t answer[3]);
+
+/* Checks that the entry stands at position i of the log whose digest at length n is given. Refusals:
+   3, 4, 7, 8, 10, 11. Answer: the hops found good, with 10 and 11 too. */
+uint64_t lot_check_membership(const uint8_t *entry, size_t entry_length, uint64_t i, uint64_t n,
+                              const uint8_t digest[32], const uint8_t *proof, size_t proof_length,
+                              uint64_t answer[3]);
+
+/* Given two entries with accepted proofs for one (i, n, digest): writes two different messages of
+   equal hash, one to each output, or finds that nothing differs. Refusals: 6 for an output under 4,097
+   bytes, 13. Answer: 1 if all is the same, else 0 and the two messages' lengths; with 13, 1 or 2 for
+   the proof that is not accepted, 1 if both are not. */
+uint64_t lot_dispute(const uint8_t *first_entry, size_t first_entry_length,
+                     const uint8_t *first_proof, size_t first_proof_length,
+                     const uint8_t *second_entry, size_t second_entry_length,
+                     const uint8_t *second_proof, size_t second_proof_length,
+                     uint64_t i, uint64_t n, const uint8_t digest[32],
+                     uint8_t *first_out, size_t first_out_length,
+                     uint8_t *second_out, size_t second_out_length, uint64_t answer[3]);
+
+/* Finds the differing component nearest n of two proofs for (i, n). Never refuses. Answer: where it
+   begins in the second proof, and its length; 0, 0 if none differs, a length is wrong or the positions
+   are refused. */
+uint64_t lot_differing(const uint8_t *first, size_t first_length, const uint8_t *second,
+                       size_t second_length, uint64_t i, uint64_t n, uint64_t answer[3]);
+
+/* The held state that the store gives at a length. Refusals: 1, 4. */
+uint64_t lot_held_at(const uint8_t *store, size_t store_length, uint64_t at, uint8_t held[688]);
+
+/* The held state at length 0 of a log: what a practice begins with. Never refuses. */
+uint64_t lot_held_start(uint64_t log, uint8_t held[688]);
+
+/* Builds the advancement proof from i to n at the start of `out`; what lies after it stays. Refusals:
+   1, 4, 6. Answer: the proof's length. */
+uint64_t lot_build_advancement(const uint8_t *store, size_t store_length, uint64_t i, uint64_t n,
+                               uint8_t *out, size_t out_length, uint64_t answer[3]);
+
+/* Advances a held state to length n with the digest claimed: `held` becomes the new state if the proof
+   is accepted. Refusals: 2, 4, 7, 9, 10, 11. Answer: the hops found good, with 9, 10 and 11 too. */
+uint64_t lot_check_advancement(uint8_t held[688], uint64_t n, const uint8_t digest[32],
+                               const uint8_t *proof, size_t proof_length, uint64_t answer[3]);
+
+#ifdef __cplusplus
+}
+#endif
+
+#endif

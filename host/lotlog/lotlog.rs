@@ -1,0 +1,271 @@
+//! Safe Rust over the proved library: one function for each call of `host/include/lotlog.h`.
+//!
+//! A slice passes as a pointer and a length, an array as a pointer; the borrow rules of Rust see to
+//! what the header asks of a C caller. Every call returns document 01's number, 0 for done, and where
+//! it answers with numbers they stand in [`Answer::beside`].
+//!
+//! The functions are `#[inline]`, so a program refers only to the calls that it makes: it links with a
+//! library that has these and not yet the others.
+
+/// A digest: 32 bytes.
+pub type Digest = [u8; 32];
+
+/// A held state: log number, count (8 bytes each, big-endian), digest, 20 rows.
+pub type Held = [u8; 688];
+
+/// Document 01's number and the numbers beside it.
+#[derive(Debug, Clone, Copy, PartialEq, Eq)]
+pub struct Answer {
+    pub number: u64,
+    pub beside: [u64; 3],
+}
+
+mod raw {
+    extern "C" {
+        pub fn lot_hash(message: *const u8, length: usize, digest: *mut u8) -> u64;
+        pub fn lot_start(store: *mut u8, length: usize, log: u64) -> u64;
+        pub fn lot_count(store: *const u8, length: usize, answer: *mut u64) -> u64;
+        pub fn lot_append(
+            store: *mut u8,
+            length: usize,
+            entry: *const u8,
+            entry_length: usize,
+            stop: u64,
+            answer: *mut u64,
+        ) -> u64;
+        pub fn lot_digest_at(store: *const u8, length: usize, at: u64, digest: *mut u8) -> u64;
+        pub fn lot_audit(store: *const u8, length: usize, answer: *mut u64) -> u64;
+        pub fn lot_build_membership(
+            store: *const u8,
+            length: usize,
+            i: u64,
+            n: u64,
+            out: *mut u8,
+            out_length: usize,
+            answer: *mut u64,
+        ) -> u64;
+        pub fn lot_check_membership(
+            entry: *const u8,
+            entry_length: usize,
+            i: u64,
+            n: u64,
+            digest: *const u8,
+            proof: *const u8,
+            proof_length: usize,
+            answer: *mut u64,
+        ) -> u64;
+        pub fn lot_dispute(
+            first_entry: *const u8,
+            first_entry_length: usize,
+            first_proof: *const u8,
+            first_proof_length: usize,
+            second_entry: *const u8,
+            second_entry_length: usize,
+            second_proof: *const u8,
+            second_proof_length: usize,
+            i: u64,
+            n: u64,
+            digest: *const u8,
+            first_out: *mut u8,
+            first_out_length: usize,
+            second_out: *mut u8,
+            second_out_length: usize,
+            answer: *mut u64,
+        ) -> u64;
+        pub fn lot_differing(
+            first: *const u8,
+            first_length: usize,
+            second: *const u8,
+            second_length: usize,
+            i: u64,
+            n: u64,
+            answer: *mut u64,
+        ) -> u64;
+        pub fn lot_held_at(store: *const u8, length: usize, at: u64, held: *mut u8) -> u64;
+        pub fn lot_held_start(log: u64, held: *mut u8) -> u64;
+        pub fn lot_build_advancement(
+            store: *const u8,
+            length: usize,
+            i: u64,
+            n: u64,
+            out: *mut u8,
+            out_length: usize,
+            answer: *mut u64,
+        ) -> u64;
+        pub fn lot_check_advancement(
+            held: *mut u8,
+            n: u64,
+            digest: *const u8,
+            proof: *const u8,
+            proof_length: usize,
+            answer: *mut u64,
+        ) -> u64;
+    }
+}
+
+/// Makes a call that answers with numbers. The library writes all three; one that it left would show
+/// as `u64::MAX`.
+#[inline]
+fn answered(call: impl FnOnce(*mut u64) -> u64) -> Answer {
+    let mut beside = [u64::MAX; 3];
+    let number = call(beside.as_mut_ptr());
+    Answer { number, beside }
+}
+
+/// SHA-256 of the message. Refusals: 3.
+#[inline]
+pub fn hash(message: &[u8], digest: &mut Digest) -> u64 {
+    unsafe { raw::lot_hash(message.as_ptr(), message.len(), digest.as_mut_ptr()) }
+}
+
+/// Starts a store for a log. Refusals: 6.
+#[inline]
+pub fn start(store: &mut [u8], log: u64) -> u64 {
+    unsafe { raw::lot_start(store.as_mut_ptr(), store.len(), log) }
+}
+
+/// The count. Refusals: 1.
+#[inline]
+pub fn count(store: &[u8]) -> Answer {
+    answered(|answer| unsafe { raw::lot_count(store.as_ptr(), store.len(), answer) })
+}
+
+/// Appends an entry, stopping after `stop` stores; answers the count now held. Refusals: 1, 3, 5.
+#[inline]
+pub fn append(store: &mut [u8], entry: &[u8], stop: u64) -> Answer {
+    answered(|answer| unsafe {
+        raw::lot_append(store.as_mut_ptr(), store.len(), entry.as_ptr(), entry.len(), stop, answer)
+    })
+}
+
+/// Reads T(at). Refusals: 1, 4.
+#[inline]
+pub fn digest_at(store: &[u8], at: u64, digest: &mut Digest) -> u64 {
+    unsafe { raw::lot_digest_at(store.as_ptr(), store.len(), at, digest.as_mut_ptr()) }
+}
+
+/// Audits the store; answers the count, or with 12 the lowest wrong element. Refusals: 1, 12.
+#[inline]
+pub fn audit(store: &[u8]) -> Answer {
+    answered(|answer| unsafe { raw::lot_audit(store.as_ptr(), store.len(), answer) })
+}
+
+/// Builds the membership proof for (i, n); answers its length. Refusals: 1, 4, 6.
+#[inline]
+pub fn build_membership(store: &[u8], i: u64, n: u64, out: &mut [u8]) -> Answer {
+    answered(|answer| unsafe {
+        raw::lot_build_membership(
+            store.as_ptr(),
+            store.len(),
+            i,
+            n,
+            out.as_mut_ptr(),
+            out.len(),
+            answer,
+        )
+    })
+}
+
+/// Checks a membership proof; answers the hops found good. Refusals: 3, 4, 7, 8, 10, 11.
+#[inline]
+pub fn check_membership(entry: &[u8], i: u64, n: u64, digest: &Digest, proof: &[u8]) -> Answer {
+    answered(|answer| unsafe {
+        raw::lot_check_membership(
+            entry.as_ptr(),
+            entry.len(),
+            i,
+            n,
+            digest.as_ptr(),
+            proof.as_ptr(),
+            proof.len(),
+            answer,
+        )
+    })
+}
+
+/// One side of a dispute.
+#[derive(Clone, Copy)]
+pub struct Side<'a> {
+    pub entry: &'a [u8],
+    pub proof: &'a [u8],
+}
+
+/// Settles a dispute; answers 1 if all is the same, else 0 and the two messages' lengths, and with 13
+/// the proof that is not accepted. Refusals: 6, 13.
+#[inline]
+pub fn dispute(sides: [Side; 2], i: u64, n: u64, digest: &Digest, out: [&mut [u8]; 2]) -> Answer {
+    let [first, second] = sides;
+    let [first_out, second_out] = out;
+    answered(|answer| unsafe {
+        raw::lot_dispute(
+            first.entry.as_ptr(),
+            first.entry.len(),
+            first.proof.as_ptr(),
+            first.proof.len(),
+            second.entry.as_ptr(),
+            second.entry.len(),
+            second.proof.as_ptr(),
+            second.proof.len(),
+            i,
+            n,
+            digest.as_ptr(),
+            first_out.as_mut_ptr(),
+            first_out.len(),
+            second_out.as_mut_ptr(),
+            second_out.len(),
+            answer,
+        )
+    })
+}
+
+/// Finds the differing component nearest n; answers where it begins in the second proof, and its
+/// length. Never refuses.
+#[inline]
+pub fn differing(first: &[u8], second: &[u8], i: u64, n: u64) -> Answer {
+    answered(|answer| unsafe {
+        raw::lot_differing(first.as_ptr(), first.len(), second.as_ptr(), second.len(), i, n, answer)
+    })
+}
+
+/// The held state that the store gives at a length. Refusals: 1, 4.
+#[inline]
+pub fn held_at(store: &[u8], at: u64, held: &mut Held) -> u64 {
+    unsafe { raw::lot_held_at(store.as_ptr(), store.len(), at, held.as_mut_ptr()) }
+}
+
+/// The held state at length 0 of a log. Never refuses.
+#[inline]
+pub fn held_start(log: u64, held: &mut Held) -> u64 {
+    unsafe { raw::lot_held_start(log, held.as_mut_ptr()) }
+}
+
+/// Builds the advancement proof from i to n; answers its length. Refusals: 1, 4, 6.
+#[inline]
+pub fn build_advancement(store: &[u8], i: u64, n: u64, out: &mut [u8]) -> Answer {
+    answered(|answer| unsafe {
+        raw::lot_build_advancement(
+            store.as_ptr(),
+            store.len(),
+            i,
+            n,
+            out.as_mut_ptr(),
+            out.len(),
+            answer,
+        )
+    })
+}
+
+/// Advances a held state; answers the hops found good. Refusals: 2, 4, 7, 9, 10, 11.
+#[inline]
+pub fn check_advancement(held: &mut Held, n: u64, digest: &Digest, proof: &[u8]) -> Answer {
+    answered(|answer| unsafe {
+        raw::lot_check_advancement(
+            held.as_mut_ptr(),
+            n,
+            digest.as_ptr(),
+            proof.as_ptr(),
+            proof.len(),
+            answer,
+        )
+    })
+}

@@ -1,0 +1,53 @@
+//! "When the counter says no": the numbers of the table and what stands beside them.
+
+/// A refused call: its number in the table, and the number returned beside it.
+///
+/// "Numbers returned beside a refusal are 0, except the hop count with 10 and 11, the hops good
+/// before a 9, the element of 12, and the 1 or 2 of 13".
+#[derive(Debug, Clone, Copy, PartialEq, Eq)]
+pub struct Refusal {
+    pub number: u64,
+    pub beside: u64,
+}
+
+/// What a call answers: its value, or its refusal.
+pub type Answer<T> = Result<T, Refusal>;
+
+/// "store under 16 bytes, wrong header, or damage in the state bytes or their order"
+pub const DAMAGED: u64 = 1;
+/// "held state over the limit, a free row not zero, or count 0 with a digest that is not T(0) of its
+/// log; bad hash state"
+pub const BAD_STATE: u64 = 2;
+/// "entry over 4,096 bytes; hashing over 65,536"
+pub const TOO_LONG: u64 = 3;
+/// "membership: i = 0, i > n, or n over the limit; advancement: n < i or n over the limit; building
+/// either, or reading a digest or a held state: number above the count"
+pub const NO_SUCH_NUMBER: u64 = 4;
+/// "no open record, or count 1,048,575"
+pub const NO_ROOM: u64 = 5;
+/// "lent output too short"
+pub const OUTPUT_SHORT: u64 = 6;
+/// "proof length not that of the path"
+pub const PROOF_LENGTH: u64 = 7;
+/// "first d is not the entry's"
+pub const FIRST_D: u64 = 8;
+/// "basis row differs"
+pub const ROW: u64 = 9;
+/// "link differs"
+pub const LINK: u64 = 10;
+/// "last digest differs"
+pub const LAST_DIGEST: u64 = 11;
+/// "audit: lowest wrong element given"
+pub const WRONG_ELEMENT: u64 = 12;
+/// "dispute: a proof is not accepted; 1 or 2 says which, 1 if both"
+pub const NOT_ACCEPTED: u64 = 13;
+
+/// A refusal with 0 beside it.
+pub fn refuse<T>(number: u64) -> Answer<T> {
+    refuse_with(number, 0)
+}
+
+/// A refusal with a number beside it.
+pub fn refuse_with<T>(number: u64, beside: u64) -> Answer<T> {
+    Err(Refusal { number, beside })
+}

@@ -1,0 +1,30 @@
+//! The second program: document 01 written down once more, from its text alone.
+//!
+//! It shares no code with the proved crates and follows another plan: it parses a proof into its
+//! components before it looks at any, keeps paths and messages in vectors, and answers with `Result`.
+//! The comparisons in `host/compare` hold every call of the proved library to it.
+//!
+//! Words in quotation marks are sentences of document 01. Every call is generic over the hash, so
+//! that the stand-in can take the place of SHA-256.
+
+pub mod dispute;
+pub mod hash;
+pub mod held;
+pub mod message;
+pub mod path;
+pub mod program;
+pub mod proof;
+pub mod refusal;
+pub mod store;
+
+#[cfg(test)]
+mod tests;
+
+/// "A digest is 32 bytes."
+pub type Digest = [u8; 32];
+
+/// "An entry is 0 to 4,096 bytes."
+pub const ENTRY_MOST: usize = 4096;
+
+/// "A log holds 0 to 1,048,575 elements, numbered from 1. Number 0 is the start."
+pub const LIMIT: u64 = 1_048_575;
