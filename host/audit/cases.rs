@@ -1,5 +1,5 @@
-//! Writes the inputs of the test of the program lot_audit, each as NAME.store, and beside it NAME.line
-//! with what the second program writes for it: audit-cases FOLDER.
+//! Writes the inputs of the test of the program lot_audit, each as NAME.store, and beside it
+//! NAME.line with what the second program writes for it: audit-cases FOLDER.
 
 use std::path::Path;
 use std::{env, fs};

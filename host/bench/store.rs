@@ -1,9 +1,9 @@
-//! Times counting and appending on a store of full size beside a plain Rust pass over the same state
-//! bytes.
+//! Times counting and appending on a store of full size beside a plain Rust pass over the same
+//! state bytes.
 //!
-//! The append is stopped before its last store, so that it does the same work each time: it counts, it
-//! hashes the entry and the element, and it writes 64 bytes. The store of 68 megabytes does not fit the
-//! caches, and nothing is cleared between the rounds.
+//! The append is stopped before its last store, so that it does the same work each time: it counts,
+//! it hashes the entry and the element, and it writes 64 bytes. The store of 68 megabytes does not
+//! fit the caches, and nothing is cleared between the rounds.
 
 mod timing;
 

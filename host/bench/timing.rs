@@ -9,8 +9,9 @@ pub struct Timing {
     pub ratio: f64,
 }
 
-/// Runs both ways in turn, `calls` times each in a round, so that whatever else the machine does falls
-/// on both. The ratio is taken within a round. The first round warms the caches and is not counted.
+/// Runs both ways in turn, `calls` times each in a round, so that whatever else the machine does
+/// falls on both. The ratio is taken within a round. The first round warms the caches and is not
+/// counted.
 pub fn side_by_side(
     rounds: usize,
     calls: usize,

@@ -112,7 +112,8 @@ impl Step {
         steps
     }
 
-    /// The proof with a bit turned in the d and in each link of each component, and of other lengths.
+    /// The proof with a bit turned in the d and in each link of each component, and of other
+    /// lengths.
     fn damaged_proofs(&self, random: &mut Random) -> Vec<Step> {
         let length = self.proof.len();
         let mut proofs: Vec<Vec<u8>> = (0..length / 32)
@@ -128,8 +129,8 @@ impl Step {
     }
 }
 
-/// An honest step is accepted with the path's hops and ends in the store's own state; each damaged one
-/// gets the same answer and the same state from both.
+/// An honest step is accepted with the path's hops and ends in the store's own state; each damaged
+/// one gets the same answer and the same state from both.
 fn check_step<C: AdvanceCalls>(both: &mut Both<C>, log: &Log, i: u64, n: u64) -> Step {
     let step = Step::honest(log, i, n);
     let hops = advancement(i, n).expect("a path").len() as u64;
@@ -197,8 +198,8 @@ fn one_by_one<C: AdvanceCalls>(both: &mut Both<C>, store: &[u8], most: u64) {
     }
 }
 
-/// The steps to the limit with the most hops, from the start, over the highest level, and by one. With
-/// 38 hops and 13,984 bytes the first is the longest of all.
+/// The steps to the limit with the most hops, from the start, over the highest level, and by one.
+/// With 38 hops and 13,984 bytes the first is the longest of all.
 fn farthest_steps<C: AdvanceCalls>(both: &mut Both<C>, store: &[u8], random: &mut Random) {
     let log = read(store);
     for (i, hops, bytes) in

@@ -16,8 +16,8 @@ pub fn parts_swapped(bytes: &[u8], one: usize, other: usize) -> Vec<u8> {
     parts.concat()
 }
 
-/// The bytes spoiled in one of many ways: a bit turned, a byte set, cut short, made longer, two parts
-/// swapped, a part cleared.
+/// The bytes spoiled in one of many ways: a bit turned, a byte set, cut short, made longer, two
+/// parts swapped, a part cleared.
 pub fn spoiled(bytes: &[u8], random: &mut Random) -> Vec<u8> {
     if bytes.is_empty() {
         return random.bytes(1);

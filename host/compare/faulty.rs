@@ -10,6 +10,9 @@ use crate::second_calls::Second;
 /// The second program with one of the faults below.
 pub enum Faulty<const FAULT: usize> {}
 
+/// With no fault, it must not be noticed.
+pub const NO_FAULT: usize = usize::MAX;
+
 pub const PADDING_AT_55_BYTES: usize = 0;
 pub const HASHES_TOO_MUCH: usize = 1;
 pub const STARTS_PAST_CAPACITY: usize = 2;
@@ -46,8 +49,8 @@ impl<const FAULT: usize> HashCalls for Faulty<FAULT> {
 impl<const FAULT: usize> StoreCalls for Faulty<FAULT> {
     fn start(store: &mut [u8], log: u64) -> u64 {
         let number = Second::start(store, log);
-        if let (STARTS_PAST_CAPACITY, 0, Some(last)) = (FAULT, number, store[16..].last_mut()) {
-            *last = 0;
+        if FAULT == STARTS_PAST_CAPACITY && number == 0 && store.len() > 16 {
+            store[store.len() - 1] = 0;
         }
         number
     }

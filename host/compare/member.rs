@@ -4,7 +4,7 @@ use lotlog::{Answer, Digest, Side};
 use second::dispute::BUFFER_LEAST;
 use second::hash::Sha256;
 use second::path::{component_length, membership, proof_length};
-use second::proof::proof_of;
+use second::proof::{components, proof_of};
 use second::store::Log;
 use second::{ENTRY_MOST, LIMIT};
 
@@ -81,15 +81,8 @@ impl Claim {
 
     /// The proof of an honest claim, cut into its components.
     fn components(&self) -> Vec<&[u8]> {
-        let mut rest = &self.proof[..];
         let path = membership(self.i, self.n).expect("a path");
-        let mut parts = Vec::new();
-        for j in path {
-            let (part, after) = rest.split_at(component_length(j));
-            parts.push(part);
-            rest = after;
-        }
-        parts
+        components(&path, &self.proof).expect("the path's length")
     }
 
     /// The proof with two components in each other's place.
@@ -147,7 +140,8 @@ impl Claim {
     }
 }
 
-/// An honest claim is accepted with the path's hops; each damaged one gets the same answer from both.
+/// An honest claim is accepted with the path's hops; each damaged one gets the same answer from
+/// both.
 fn check_claim<C: MemberCalls>(both: &mut Both<C>, claim: &Claim, random: &mut Random) {
     let answer = claim.check(both);
     assert_eq!(answer, Answer { number: 0, beside: [claim.hops(), 0, 0] });
@@ -156,7 +150,8 @@ fn check_claim<C: MemberCalls>(both: &mut Both<C>, claim: &Claim, random: &mut R
     }
 }
 
-/// Settles disputes of the claim with itself and with a spoiled copy, and asks for the differing part.
+/// Settles disputes of the claim with itself and with a spoiled copy, and asks for the differing
+/// part.
 fn dispute_claim<C: MemberCalls>(both: &mut Both<C>, claim: &Claim, random: &mut Random) {
     let other_proof = spoiled(&claim.proof, random);
     let other_entry = spoiled(&claim.entry, random);

@@ -81,8 +81,8 @@ fn damaged_header<C: StoreCalls>(both: &mut Both<C>, elements: u64) {
     }
 }
 
-/// Each state byte turned over and set to values that are damage, which makes every order of open and
-/// closed next to each other.
+/// Each state byte turned over and set to values that are damage, which makes every order of open
+/// and closed next to each other.
 fn damaged_states<C: StoreCalls>(both: &mut Both<C>, elements: u64) {
     let room = 3;
     for j in 1..=elements + room {
@@ -131,8 +131,8 @@ fn odd_sizes<C: StoreCalls>(both: &mut Both<C>) {
     }
 }
 
-/// A store one record short of the limit, at it, and with bytes past it that would be damage if they
-/// were read.
+/// A store one record short of the limit, at it, and with bytes past it that would be damage if
+/// they were read.
 fn at_the_limit<C: StoreCalls>(both: &mut Both<C>) {
     let mut store = sound(LIMIT - 1, 1);
     store.resize(store.len() + 2 * RECORD + 30, 0xEE);

@@ -19,14 +19,15 @@ use crate::random::Random;
 const LOGS: [(u64, u64); 9] =
     [(0, 0), (0, 1), (1, 2), (7, 1), (8, 8), (40, 0), (100, 3), (1_000, 1), (4_500, 0)];
 
-/// Makes so many random calls.
+/// Makes so many random calls or a few more.
 pub fn run<C>(both: &mut Both<C>, seed: u64, calls: u64)
 where
     C: HashCalls + StoreCalls + MemberCalls + AdvanceCalls,
 {
     let stores = LOGS.map(|(elements, room)| sound(elements, room));
     let mut random = Random::new(seed);
-    while both.calls < calls {
+    let enough = both.calls + calls;
+    while both.calls < enough {
         let store = &stores[random.place(stores.len())];
         match random.below(24) {
             0 => hash(both, &mut random),
@@ -126,12 +127,22 @@ fn look<C: StoreCalls + AdvanceCalls>(both: &mut Both<C>, store: &[u8], random: 
     let at = random.number_near(at);
     let store = maybe_damaged(store, random);
     match random.below(8) {
-        0 | 1 => both.digest_at(&store, at).0,
-        2 | 3 => both.held_at(&store, at).0,
-        4 | 5 => both.count(&store).number,
-        6 => both.audit(&store).number,
-        _ => u64::from(both.held_start(at)[0]),
-    };
+        0 | 1 => {
+            both.digest_at(&store, at);
+        }
+        2 | 3 => {
+            both.held_at(&store, at);
+        }
+        4 | 5 => {
+            both.count(&store);
+        }
+        6 => {
+            both.audit(&store);
+        }
+        _ => {
+            both.held_start(random.next());
+        }
+    }
 }
 
 fn append<C: StoreCalls>(both: &mut Both<C>, store: &[u8], random: &mut Random) {

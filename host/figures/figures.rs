@@ -1,9 +1,9 @@
 //! Prints figures of a small log as the second program computes them, one `NAME HEX` to a line.
 //!
-//! The log has number 7 and three entries: the empty one, "A", and the 33 bytes from 0x61 upward. Its
-//! figures stand in figures.txt, first under the stand-in hash and then under SHA-256, so that the
-//! definitions of the proofs can be held to values from outside. Rows of the held state that are not
-//! printed are zero.
+//! The log has number 7 and three entries: the empty one, "A", and the 33 bytes from 0x61 upward.
+//! Its figures stand in figures.txt, first under the stand-in hash and then under SHA-256, so that
+//! the definitions of the proofs can be held to values from outside. Rows of the held state that
+//! are not printed are zero.
 
 use second::hash::{Hash, Sha256, Xor};
 use second::held::held_of;

@@ -1,11 +1,11 @@
 //! Safe Rust over the proved library: one function for each call of `host/include/lotlog.h`.
 //!
 //! A slice passes as a pointer and a length, an array as a pointer; the borrow rules of Rust see to
-//! what the header asks of a C caller. Every call returns document 01's number, 0 for done, and where
-//! it answers with numbers they stand in [`Answer::beside`].
+//! what the header asks of a C caller. Every call returns document 01's number, 0 for done, and
+//! where it answers with numbers they stand in [`Answer::beside`].
 //!
-//! The functions are `#[inline]`, so a program refers only to the calls that it makes: it links with a
-//! library that has these and not yet the others.
+//! The functions are `#[inline]`, so a program refers only to the calls that it makes: it links
+//! with a library that has these and not yet the others.
 
 /// A digest: 32 bytes.
 pub type Digest = [u8; 32];
@@ -103,8 +103,8 @@ mod raw {
     }
 }
 
-/// Makes a call that answers with numbers. The library writes all three; one that it left would show
-/// as `u64::MAX`.
+/// Makes a call that answers with numbers. The library writes all three; one that it left would
+/// show as `u64::MAX`.
 #[inline]
 fn answered(call: impl FnOnce(*mut u64) -> u64) -> Answer {
     let mut beside = [u64::MAX; 3];
@@ -190,8 +190,8 @@ pub struct Side<'a> {
     pub proof: &'a [u8],
 }
 
-/// Settles a dispute; answers 1 if all is the same, else 0 and the two messages' lengths, and with 13
-/// the proof that is not accepted. Refusals: 6, 13.
+/// Settles a dispute; answers 1 if all is the same, else 0 and the two messages' lengths, and with
+/// 13 the proof that is not accepted. Refusals: 6, 13.
 #[inline]
 pub fn dispute(sides: [Side; 2], i: u64, n: u64, digest: &Digest, out: [&mut [u8]; 2]) -> Answer {
     let [first, second] = sides;

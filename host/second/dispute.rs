@@ -26,8 +26,8 @@ pub enum Found {
     Messages(u64, u64),
 }
 
-/// "Given two entries and two proofs for one (i, n, digest), and two lent buffers". "A dispute checks
-/// 6, then 13 stands for all the checker's refusals."
+/// "Given two entries and two proofs for one (i, n, digest), and two lent buffers". "A dispute
+/// checks 6, then 13 stands for all the checker's refusals."
 pub fn dispute<H: Hash>(
     sides: [Side; 2],
     i: u64,
@@ -54,8 +54,9 @@ pub fn dispute<H: Hash>(
     }
 }
 
-/// "Walking back from n, the first differing component gives the two element messages; if no component
-/// differs, differing entries give the two entry messages." "If nothing differs the answer is "same"".
+/// "Walking back from n, the first differing component gives the two element messages; if no
+/// component differs, differing entries give the two entry messages." "If nothing differs the
+/// answer is "same"".
 fn messages(sides: [Side; 2], i: u64, n: u64) -> Option<[Vec<u8>; 2]> {
     if let Some((j, place)) = last_difference(sides[0].proof, sides[1].proof, i, n) {
         return Some(sides.map(|side| message::element(j, &side.proof[place.clone()])));
@@ -78,9 +79,9 @@ fn last_difference(first: &[u8], second: &[u8], i: u64, n: u64) -> Option<(u64, 
     Some((j, begin..begin + component_length(j)))
 }
 
-/// "A second call, on two proofs for (i, n), hands back the differing component nearest n as a part of
-/// the second proof, without copying. It is the empty part if none differs, a length is wrong or the
-/// positions are refused." The part is given by its place; the empty part begins at 0.
+/// "A second call, on two proofs for (i, n), hands back the differing component nearest n as a part
+/// of the second proof, without copying. It is the empty part if none differs, a length is wrong or
+/// the positions are refused." The part is given by its place; the empty part begins at 0.
 pub fn differing(first: &[u8], second: &[u8], i: u64, n: u64) -> Range<usize> {
     last_difference(first, second, i, n).map_or(0..0, |(_, place)| place)
 }

@@ -55,7 +55,8 @@ impl HashState {
         HashState { words: plain::FIRST, block: [0; 64], fill: 0, total: 0 }
     }
 
-    /// "A state whose fill is not its total modulo 64, or whose total is over 65,536, is refused with 2."
+    /// "A state whose fill is not its total modulo 64, or whose total is over 65,536, is refused
+    /// with 2."
     fn in_order(&self) -> Answer<()> {
         if self.fill != self.total % 64 || self.total > HASH_MOST {
             return refuse(BAD_STATE);
@@ -72,8 +73,8 @@ impl HashState {
         Ok(bytes.iter().fold(self, HashState::take_byte))
     }
 
-    /// A byte goes to the place `fill`. A full block is compressed and all its 64 bytes become zeros;
-    /// bytes past the fill stay otherwise. So no two cuttings end in different states.
+    /// A byte goes to the place `fill`. A full block is compressed and all its 64 bytes become
+    /// zeros; bytes past the fill stay otherwise. So no two cuttings end in different states.
     fn take_byte(mut self, byte: &u8) -> HashState {
         self.block[self.fill as usize] = *byte;
         self.fill += 1;

@@ -48,8 +48,8 @@ pub fn held_of<H: Hash>(log: &Log, at: u64) -> Held {
     Held { log: log.number, count: at, digest: log.digest::<H>(at), rows }
 }
 
-/// Refuses with 2: "held state over the limit, a free row not zero, or count 0 with a digest that is
-/// not T(0) of its log".
+/// Refuses with 2: "held state over the limit, a free row not zero, or count 0 with a digest that
+/// is not T(0) of its log".
 fn in_order<H: Hash>(held: &Held) -> Answer<()> {
     let over = held.count > LIMIT;
     let free_not_zero = (0..ROWS).any(|row| !in_use(held.count, row) && held.rows[row] != [0; 32]);
@@ -60,8 +60,8 @@ fn in_order<H: Hash>(held: &Held) -> Answer<()> {
     Ok(())
 }
 
-/// One hop of the held state: "A hop of level l from j reads the component of j + 2^l." The refusal is
-/// its number alone.
+/// One hop of the held state: "A hop of level l from j reads the component of j + 2^l." The refusal
+/// is its number alone.
 fn hop<H: Hash>(held: &Held, level: u32, component: &[u8]) -> Result<Held, u64> {
     let rows = carried(held, level, component)?;
     if link(component, level) != held.digest {
@@ -72,9 +72,9 @@ fn hop<H: Hash>(held: &Held, level: u32, component: &[u8]) -> Result<Held, u64> 
     Ok(Held { log: held.log, count, digest, rows })
 }
 
-/// The basis after a hop. "If row l is free it takes T(j). Otherwise, from c = l upward while row c is
-/// in use, row c must equal the component's link of level c + 1; the last such value moves to the
-/// first free row and the others become zero."
+/// The basis after a hop. "If row l is free it takes T(j). Otherwise, from c = l upward while row c
+/// is in use, row c must equal the component's link of level c + 1; the last such value moves to
+/// the first free row and the others become zero."
 fn carried(held: &Held, level: u32, component: &[u8]) -> Result<[Digest; ROWS], u64> {
     let mut rows = held.rows;
     let mut moving = held.digest;
@@ -94,8 +94,8 @@ fn carried(held: &Held, level: u32, component: &[u8]) -> Result<[Digest; ROWS], 
 /// "The last digest computed must be the one claimed." Acceptance gives the hops and the new state;
 /// "any refusal hands back the old", which here stays with the caller.
 ///
-/// "Advancing to the same n takes an empty proof and needs the claimed digest to be the held one, else
-/// 11."
+/// "Advancing to the same n takes an empty proof and needs the claimed digest to be the held one,
+/// else 11."
 pub fn check_advancement<H: Hash>(
     held: &Held,
     n: u64,

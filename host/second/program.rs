@@ -7,8 +7,8 @@ use crate::store::audit;
 /// "for more than 65,536 bytes, `too long`"
 pub const INPUT_MOST: usize = 65_536;
 
-/// What the program writes for its whole input: "`sound N` with the count, `wrong N` with the element,
-/// `refused 1`, or, for more than 65,536 bytes, `too long`", and a line feed.
+/// What the program writes for its whole input: "`sound N` with the count, `wrong N` with the
+/// element, `refused 1`, or, for more than 65,536 bytes, `too long`", and a line feed.
 pub fn line<H: Hash>(input: &[u8]) -> String {
     if input.len() > INPUT_MOST {
         return "too long\n".to_string();

@@ -40,8 +40,8 @@ pub fn build_advancement<H: Hash>(store: &[u8], i: u64, n: u64, out: &mut [u8]) 
     build::<H>(&log, &elements, out)
 }
 
-/// The proof cut into the components of these elements: "proof length not that of the path" is refused
-/// with 7.
+/// The proof cut into the components of these elements: "proof length not that of the path" is
+/// refused with 7.
 pub fn components<'a>(elements: &[u64], proof: &'a [u8]) -> Answer<Vec<&'a [u8]>> {
     if proof.len() != proof_length(elements) {
         return refuse(PROOF_LENGTH);

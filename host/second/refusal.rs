@@ -15,8 +15,8 @@ pub type Answer<T> = Result<T, Refusal>;
 
 /// "store under 16 bytes, wrong header, or damage in the state bytes or their order"
 pub const DAMAGED: u64 = 1;
-/// "held state over the limit, a free row not zero, or count 0 with a digest that is not T(0) of its
-/// log; bad hash state"
+/// "held state over the limit, a free row not zero, or count 0 with a digest that is not T(0) of
+/// its log; bad hash state"
 pub const BAD_STATE: u64 = 2;
 /// "entry over 4,096 bytes; hashing over 65,536"
 pub const TOO_LONG: u64 = 3;

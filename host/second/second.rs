@@ -1,8 +1,8 @@
 //! The second program: document 01 written down once more, from its text alone.
 //!
 //! It shares no code with the proved crates and follows another plan: it parses a proof into its
-//! components before it looks at any, keeps paths and messages in vectors, and answers with `Result`.
-//! The comparisons in `host/compare` hold every call of the proved library to it.
+//! components before it looks at any, keeps paths and messages in vectors, and answers with
+//! `Result`. The comparisons in `host/compare` hold every call of the proved library to it.
 //!
 //! Words in quotation marks are sentences of document 01. Every call is generic over the hash, so
 //! that the stand-in can take the place of SHA-256.

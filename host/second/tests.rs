@@ -185,6 +185,7 @@ fn store_sizes() {
         assert_eq!(start(&mut store, 7), if bytes < 16 { refused(6, 0) } else { Ok(()) });
         assert_eq!(line::<Sha256>(&store), said);
         assert_eq!(append::<Sha256>(&mut store, b"x", WHOLE), appended);
+        assert!(append::<Sha256>(&mut store, b"x", WHOLE).is_err(), "no room for two");
     }
 }
 
@@ -314,7 +315,8 @@ fn membership_refusals() {
     assert_eq!(check(&entry(5), 5, u64::MAX, &digest, &proof), refused(4, 0));
     assert_eq!(check(&entry(5), 5, 12, &digest, &proof[1..]), refused(7, 0));
     assert_eq!(check(&entry(6), 5, 12, &digest, &proof), refused(8, 0));
-    // The link of 8 to 6 has level 1: it follows the components of 5 and 6, d and the link of level 0.
+    // The link of 8 to 6 has level 1: it follows the components of 5 and 6, d and the link of level
+    // 0.
     assert_eq!(check(&entry(5), 5, 12, &digest, &damaged(64 + 96 + 64)), refused(10, 1));
     assert_eq!(check(&entry(5), 5, 12, &digest, &damaged(64 + 96)), refused(10, 2));
     assert_eq!(check(&entry(5), 5, 12, &[0; 32], &proof), refused(11, 3));
@@ -374,7 +376,8 @@ fn advancement_refusals() {
     assert_eq!(check(&held, 6, &digest, &proof), refused(4, 0));
     assert_eq!(check(&held, LIMIT + 1, &digest, &proof), refused(4, 0));
     assert_eq!(check(&held, 12, &digest, &proof[32..]), refused(7, 0));
-    // Of the component of 8, the link of level 0 is the one hopped and those of level 1 to 3 are rows.
+    // Of the component of 8, the link of level 0 is the one hopped and those of level 1 to 3 are
+    // rows.
     assert_eq!(check(&held, 12, &digest, &damaged(32)), refused(10, 0));
     assert_eq!(check(&held, 12, &digest, &damaged(64)), refused(9, 0));
     assert_eq!(check(&held, 12, &digest, &damaged(128)), refused(9, 0));

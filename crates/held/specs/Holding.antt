@@ -5,6 +5,7 @@ use Rattle.lists.specs.Bytes.{Bytes}
 use Rattle.hash.specs.declared.Digest.{Digest}
 use Rattle.path.specs.declared.Length.{Length}
 use Rattle.rules.specs.Held as rules
+use Rattle.rules.specs.OneOutcome.{One, one-outcome}
 use Rattle.held.specs.declared.Held.{Held}
 
 abbrev pub bytesOf : Digest → Bytes
@@ -31,3 +32,7 @@ rows-back (d ∷ ds) = ap (λ (l : List Digest). d ∷ l) (rows-back ds)
 
 pub held-back : (h : Held) → heldFrom (holds h) ≡ h
 held-back h = ap (λ (l : List Digest). record { log = h .log; count = h .count; digest = h .digest; rows = l }) (rows-back (h .rows))
+
+-- ONE STATE: two states that hold the same are the same.
+pub held-one : (o : rules.Held) → One holds o
+held-one o = one-outcome holds heldFrom held-back o

@@ -133,17 +133,17 @@ pub fn carry(h: Held, level: u32) -> [Digest; LEVELS]
     let zero = Digest { bytes: [0u8; 32] };
     let mut rows = h.rows;
     let mut moving = h.digest;
-    let mut q = h.count.0 >> level;
+    let mut bits = h.count.0 >> level;
     let mut c = level as usize;
     while c < LEVELS {
-        if q % 2 == 0 {
+        if bits % 2 == 0 {
             rows[c] = moving;
             return rows;
         }
         let row = rows[c];
         rows[c] = zero;
         moving = row;
-        q /= 2;
+        bits /= 2;
         c += 1;
     }
     rows

@@ -1,4 +1,4 @@
--- One more word of a block's schedule, as the two loops of `block::schedule` store it.
+-- One more word of a block's schedule, as it is stored, and one more round.
 use mathlib.Core.Path.{_≡_, refl, sym, ap, _∙_}
 use mathlib.Core.List.{List}
 use Prim.Native.Nat.{ℕ, _+_, _-_, _*_, _≤_, _<_}
@@ -8,7 +8,8 @@ use borrow.Author.Tests.{lt-ltb, le-ltb}
 use lib.ListN.{length, getD, take, set}
 use lib.Seq.{take-all}
 use Rattle.lists.specs.Laws.{take-stored, getD-known}
-use Rattle.sha256.specs.Sha256.{Bytes, word, mix, next, schedule}
+use Rattle.sha256.specs.Sha256.{Bytes, K, word, mix, next, schedule, round, rounds, plus, compress}
+use Rattle.sha256.specs.declared.Words.{Words}
 
 module _ (m : Bytes) (w : List ℕ) (t x : ℕ) where
   more : t < length w → take t w ≡ schedule t m → x ≡ next t m (schedule t m) → take (t + 1) (set w t x) ≡ schedule (t + 1) m
@@ -31,3 +32,11 @@ module _ (m : Bytes) (w : List ℕ) (t x : ℕ) where
 
 pub whole : (m : Bytes) (w : List ℕ) (t : ℕ) → t ≡ 64 → length w ≡ 64 → take t w ≡ schedule t m → w ≡ schedule 64 m
 whole m w t e l h = sym (take-all t w (omega arith)) ∙ h ∙ ap (λ (n : ℕ). schedule n m) e
+
+pub one-round : (t : ℕ) (k w : List ℕ) (s v r : Words) → k ≡ K → v ≡ rounds t w s → r ≡ round (getD k t 0) (getD w t 0) v → r ≡ rounds (t + 1) w s
+unfolding rounds
+one-round t k w s v r ek ev er = rw (add-one, ← ev, ← ek) er
+
+pub compressed : (s v r : Words) (m : Bytes) (w : List ℕ) (t : ℕ) → t ≡ 64 → w ≡ schedule 64 m → v ≡ rounds t w s → r ≡ plus s v → r ≡ compress s m
+unfolding compress
+compressed s v r m w t et ew ev er = er ∙ ap (plus s) (ev ∙ rw (et, ew))

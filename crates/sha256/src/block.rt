@@ -3,6 +3,7 @@ ghost use mathlib.Core.Path.{_≡_};
 ghost use Prim.Native.Nat.{_+_, _-_, _<_, _≤_};
 ghost use lib.ListN.{length, getD};
 ghost use Rattle.sha256.specs.Sha256 as Spec;
+ghost use Rattle.sha256.specs.Steps.{Scheduled, Rounded};
 use crate::Words;
 use std::num::wrapping_add_u32;
 
@@ -145,22 +146,43 @@ fn later(w: &[u32; 64], t: usize) -> u32
     mix(w[t - 2], w[t - 7], w[t - 15], w[t - 16])
 }
 
-// The sixty-four words of a block's schedule.
-fn schedule(block: &[u8]) -> [u32; 64]
-    requires { ⌜ length (now block) ≡ 64 ⌝ }
-    ensures { λ r. ⌜ r ≡ Spec.schedule 64 (now (block .entry)) ⌝ }
+// Stores the schedule's word t.
+fn next_word(w: &mut [u32; 64], t: usize)
+    requires { ⌜ (16 ≤ t) × (t < 64) × (length (now w) ≡ 64) ⌝ }
+    ensures { λ r. ⌜ Scheduled t 1 (now (w .entry)) (now (w .exit)) ⌝ }
 {
-    let mut w = [0u32; 64];
+    w[t] = later(&*w, t);
+}
+
+// Eight words in a row: the compiler then keeps the latest in registers.
+fn eight_words(w: &mut [u32; 64], t: usize)
+    requires { ⌜ (16 ≤ t) × (t + 8 ≤ 64) × (length (now w) ≡ 64) ⌝ }
+    ensures { λ r. ⌜ Scheduled t 8 (now (w .entry)) (now (w .exit)) ⌝ }
+{
+    next_word(&mut *w, t);
+    next_word(&mut *w, t + 1);
+    next_word(&mut *w, t + 2);
+    next_word(&mut *w, t + 3);
+    next_word(&mut *w, t + 4);
+    next_word(&mut *w, t + 5);
+    next_word(&mut *w, t + 6);
+    next_word(&mut *w, t + 7);
+}
+
+// Stores the sixty-four words of a block's schedule.
+fn schedule(block: &[u8], w: &mut [u32; 64])
+    requires { ⌜ (length (now block) ≡ 64) × (length (now w) ≡ 64) ⌝ }
+    ensures { λ r. ⌜ now (w .exit) ≡ Spec.schedule 64 (now (block .entry)) ⌝ }
+{
     let mut t: usize = 0;
     while t < 16 {
         w[t] = load(block, 4 * t);
         t += 1;
     }
     while t < 64 {
-        w[t] = later(&w, t);
-        t += 1;
+        eight_words(&mut *w, t);
+        t += 8;
     }
-    w
 }
 
 // The constants, as one value: a round that indexed `K` itself would copy all of it.
@@ -189,6 +211,29 @@ fn round(v: Words, k: u32, w: u32) -> Words
     }
 }
 
+// Round t, with the constants k and the schedule w.
+fn next_round(v: Words, k: &[u32; 64], w: &[u32; 64], t: usize) -> Words
+    requires { ⌜ (t < 64) × (now k ≡ Spec.K) ⌝ }
+    ensures { λ r. ⌜ Rounded t 1 (now (w .entry)) v r ⌝ }
+{
+    round(v, k[t], w[t])
+}
+
+// Eight rounds in a row: no word is moved between them.
+fn eight_rounds(v: Words, k: &[u32; 64], w: &[u32; 64], t: usize) -> Words
+    requires { ⌜ (t + 8 ≤ 64) × (now k ≡ Spec.K) ⌝ }
+    ensures { λ r. ⌜ Rounded t 8 (now (w .entry)) v r ⌝ }
+{
+    let v1 = next_round(v, k, w, t);
+    let v2 = next_round(v1, k, w, t + 1);
+    let v3 = next_round(v2, k, w, t + 2);
+    let v4 = next_round(v3, k, w, t + 3);
+    let v5 = next_round(v4, k, w, t + 4);
+    let v6 = next_round(v5, k, w, t + 5);
+    let v7 = next_round(v6, k, w, t + 6);
+    next_round(v7, k, w, t + 7)
+}
+
 fn plus(s: Words, v: Words) -> Words
     ensures { λ r. ⌜ r ≡ Spec.plus s v ⌝ }
 {
@@ -210,12 +255,13 @@ pub fn compress(s: Words, block: &[u8]) -> Words
     ensures { λ r. ⌜ r ≡ Spec.compress s (now (block .entry)) ⌝ }
 {
     let k = keys();
-    let w = schedule(block);
+    let mut w = [0u32; 64];
+    schedule(block, &mut w);
     let mut v = s;
     let mut t: usize = 0;
     while t < 64 {
-        v = round(v, k[t], w[t]);
-        t += 1;
+        v = eight_rounds(v, &k, &w, t);
+        t += 8;
     }
     plus(s, v)
 }

@@ -12,7 +12,7 @@ fn run(seed: u64) {
     println!("seed {}", seed);
     let mut both = Both::<Library>::default();
     whole::run(&mut both, seed, CALLS);
-    println!("{} calls agree", both.calls);
+    println!("{} calls agree, seed {}", both.calls, seed);
 }
 
 fn main() {

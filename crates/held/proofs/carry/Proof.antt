@@ -14,14 +14,14 @@ use Rattle.held.proofs.carry.Reads as reads
 use Rattle.held.proofs.carry.Lts as lts
 
 abbrev Inv-loop : tie.InvT-loop
-Inv-loop level zero rows₀ moving₀ q₀ c₀ rows moving q c =
-    (length (rowsOf rows) ≡ v1 .levels) × (carriedFrom c₀ q₀ (rowsOf rows₀) (moving₀ .bytes) ≡ carriedFrom c q (rowsOf rows) (moving .bytes))
+Inv-loop level zero rows₀ moving₀ bits₀ c₀ rows moving bits c =
+    (length (rowsOf rows) ≡ v1 .levels) × (carriedFrom c₀ bits₀ (rowsOf rows₀) (moving₀ .bytes) ≡ carriedFrom c bits (rowsOf rows) (moving .bytes))
 
 abbrev μ-loop : tie.MeasureT-loop
-μ-loop level zero rows₀ moving₀ q₀ c₀ rows moving q c = v1 .levels - c
+μ-loop level zero rows₀ moving₀ bits₀ c₀ rows moving bits c = v1 .levels - c
 
-shr-q : tie.Need-shr-q Inv-loop μ-loop
-shr-q c = search needs
+shr-bits : tie.Need-shr-bits Inv-loop μ-loop
+shr-bits c = search needs
 
 loop-holds : tie.Need-loop-holds Inv-loop μ-loop
 loop-holds c = let a = c .before .before .before in (rows-long (a .args .h .rows) _ (a .good .0 .1 .1 .1 .1 .1 .0 .1 .0 .1), refl)
@@ -35,7 +35,7 @@ array-set-from-rows c = search needs
 returns : tie.Need-returns Inv-loop μ-loop
 returns c =
     let l = c .before .before .loop in
-    rows-set (l .rows) (l .c) (l .moving) ∙ sym (l .inv .1 ∙ carry-stop (rowsOf (l .rows)) (l .c) (omega arith) (l .q) (l .moving .bytes) (is-free (l .q) (c .if1 .taken)))
+    rows-set (l .rows) (l .c) (l .moving) ∙ sym (l .inv .1 ∙ carry-stop (rowsOf (l .rows)) (l .c) (omega arith) (l .bits) (l .moving .bytes) (is-free (l .bits) (c .if1 .taken)))
 
 mul-row : tie.Need-mul-row Inv-loop μ-loop
 mul-row c = search needs
@@ -59,13 +59,13 @@ loop-again : tie.Need-loop-again Inv-loop μ-loop
 loop-again c =
     let l = c .before .before .before .loop in (
       ap length (rows-set (l .rows) (l .c) zeroDigest) ∙ length-set (rowsOf (l .rows)) (l .c) zeros ∙ l .inv .0,
-      l .inv .1 ∙ carry-turn (l .rows) (l .c) (l .q) (l .moving .bytes) (omega arith) (is-used (l .q) (c .before .if1 .left)),
+      l .inv .1 ∙ carry-turn (l .rows) (l .c) (l .bits) (l .moving .bytes) (omega arith) (is-used (l .bits) (c .before .if1 .left)),
     )
 
 returns-2 : tie.Need-returns-2 Inv-loop μ-loop
 returns-2 c =
     let l = c .before .loop in
-    sym (l .inv .1 ∙ carry-end (rowsOf (l .rows)) (l .c) (omega arith) (l .q) (l .moving .bytes))
+    sym (l .inv .1 ∙ carry-end (rowsOf (l .rows)) (l .c) (omega arith) (l .bits) (l .moving .bytes))
 
 pub carry-spec : {M : Type 1} → statement M
 carry-spec =
@@ -73,7 +73,7 @@ carry-spec =
     (tie.spec
     Inv-loop
     μ-loop
-    shr-q
+    shr-bits
     loop-holds
     mul-rows
     array-set-from-rows

@@ -1,11 +1,11 @@
--- `block::schedule` meets its contract: each turn of a loop adds the schedule's next word.
+-- `block::schedule` meets its contract: each turn of a loop adds the schedule's next words.
 use mathlib.Core.Path.{_≡_}
-use Prim.Native.Nat.{_≤_, _-_}
+use Prim.Native.Nat.{_≤_, _-_, _%_}
 use native.Mathlib.Omega.{arith}
 use borrow.Author.Needs.{needs}
-use lib.ListN.{length, take}
+use lib.ListN.{length, take, length-set}
 use Rattle.sha256.specs.Sha256.{schedule}
-use Rattle.sha256.proofs.Scheduling.{step-load, step-mix, whole}
+use Rattle.sha256.proofs.Scheduling.{step-load, whole}
 use Rattle.sha256.proofs.block.schedule.Statement.{statement}
 use Rattle.sha256.proofs.block.schedule.Tie as tie
 
@@ -16,7 +16,7 @@ abbrev μ-loop : tie.MeasureT-loop
 μ-loop block w₀ t₀ w t = 16 - t
 
 abbrev Inv-loop2 : tie.InvT-loop2
-Inv-loop2 block w₀ t₀ w t = (16 ≤ t) × (t ≤ 64) × (length w ≡ 64) × (take t w ≡ schedule t block)
+Inv-loop2 block w₀ t₀ w t = (16 ≤ t) × (t ≤ 64) × (t % 8 ≡ 0) × (length w ≡ 64) × (take t w ≡ schedule t block)
 
 abbrev μ-loop2 : tie.MeasureT-loop2
 μ-loop2 block w₀ t₀ w t = 64 - t
@@ -34,8 +34,8 @@ load-requires c κs = search needs
 mul-w : tie.Need-mul-w Inv-loop μ-loop Inv-loop2 μ-loop2
 mul-w c = search needs
 
-array-write-w : tie.Need-array-write-w Inv-loop μ-loop Inv-loop2 μ-loop2
-array-write-w c = search needs
+element-write-w : tie.Need-element-write-w Inv-loop μ-loop Inv-loop2 μ-loop2
+element-write-w c = search needs
 
 add-t : tie.Need-add-t Inv-loop μ-loop Inv-loop2 μ-loop2
 add-t c = search needs
@@ -46,20 +46,13 @@ loop-less c = search needs
 loop-again : tie.Need-loop-again Inv-loop μ-loop Inv-loop2 μ-loop2
 loop-again c =
     let l = c .before .before .loop in
-    let a = c .before .before .before .before .args in
-    (search needs, search needs, step-load (a .block .now) (l .w) (l .t) _ (c .before .loop-test .taken) (omega arith) (l .inv .2) (c .load .ensures))
+    (omega arith, simp length-set (l .inv .1), step-load _ (l .w) (l .t) _ (c .before .loop-test .taken) (omega arith) (l .inv .2) (c .load .ensures))
 
 loop2-holds : tie.Need-loop2-holds Inv-loop μ-loop Inv-loop2 μ-loop2
 loop2-holds c = search needs
 
-later-requires : tie.Need-later-requires Inv-loop μ-loop Inv-loop2 μ-loop2
-later-requires c κs = search needs
-
-mul-w-2 : tie.Need-mul-w-2 Inv-loop μ-loop Inv-loop2 μ-loop2
-mul-w-2 c = search needs
-
-array-write-w-2 : tie.Need-array-write-w-2 Inv-loop μ-loop Inv-loop2 μ-loop2
-array-write-w-2 c = search needs
+eight-words-requires : tie.Need-eight-words-requires Inv-loop μ-loop Inv-loop2 μ-loop2
+eight-words-requires c κs = search needs
 
 add-t-2 : tie.Need-add-t-2 Inv-loop μ-loop Inv-loop2 μ-loop2
 add-t-2 c = search needs
@@ -70,12 +63,12 @@ loop2-less c = search needs
 loop2-again : tie.Need-loop2-again Inv-loop μ-loop Inv-loop2 μ-loop2
 loop2-again c =
     let l = c .before .before .before .loop2 in
-    (search needs, search needs, search needs, step-mix _ (l .w) (l .t) _ (l .inv .0) (omega arith) (l .inv .3) (c .later .ensures))
+    (omega arith, omega arith, omega arith, c .eight-words .ensures .size, c .eight-words .ensures .words _ (l .inv .4))
 
 returns : tie.Need-returns Inv-loop μ-loop Inv-loop2 μ-loop2
 returns c =
     let l = c .before .loop2 in
-    whole _ (l .w) (l .t) (omega arith) (l .inv .2) (l .inv .3)
+    whole _ (l .w) (l .t) (omega arith) (l .inv .3) (l .inv .4)
 
 pub schedule-spec : {M : Type 1} → statement M
 schedule-spec =
@@ -89,14 +82,12 @@ schedule-spec =
     mul-load
     load-requires
     mul-w
-    array-write-w
+    element-write-w
     add-t
     loop-less
     loop-again
     loop2-holds
-    later-requires
-    mul-w-2
-    array-write-w-2
+    eight-words-requires
     add-t-2
     loop2-less
     loop2-again
