@@ -10,7 +10,7 @@ build=build
 # The crate whose calls the host programs link, its archive, and the programs that are tested from here.
 library=lotlog
 archive=$build/lib$library.a
-programs=()
+programs=(lot_audit)
 
 rust_flags=(--edition 2021 -C opt-level=3 -C target-cpu=x86-64 -L "$build")
 

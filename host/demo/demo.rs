@@ -1,0 +1,247 @@
+//! The main job on sample lots, with real calls of the proved library and real files:
+//! demo-story LOTS FOLDER.
+//!
+//! The house and the practices keep what they have in files of the folder, and read them anew for
+//! each call. A line tells a call and its answer: document 01's number and the number beside it.
+//! The first answer that is not the expected one ends the story with status 1. What is expected is
+//! what document 01 gives for the sample, `host/demo/lots.txt`.
+
+use std::path::PathBuf;
+use std::{env, fs, process};
+
+use lotlog::{Answer, Digest, Held, Side};
+
+const LOG: u64 = 7;
+const HEADER: usize = 16;
+const RECORD: usize = 65;
+const ROOM: usize = 16;
+
+/// The stores of a whole append, the last of which closes the record; and those of one that is cut.
+const WHOLE: u64 = 65;
+const CUT: u64 = 40;
+
+/// A lot in the log.
+#[derive(Clone, Copy)]
+struct Lot<'a> {
+    entry: &'a [u8],
+    position: u64,
+}
+
+/// The folder of the files.
+struct Files(PathBuf);
+
+impl Files {
+    fn read(&self, name: &str) -> Vec<u8> {
+        let path = self.0.join(name);
+        fs::read(&path).unwrap_or_else(|error| panic!("{}: {}", path.display(), error))
+    }
+
+    fn array<const N: usize>(&self, name: &str) -> [u8; N] {
+        self.read(name).try_into().unwrap_or_else(|_| panic!("{} has not {} bytes", name, N))
+    }
+
+    fn write(&self, name: &str, bytes: &[u8]) {
+        let path = self.0.join(name);
+        fs::write(&path, bytes).unwrap_or_else(|error| panic!("{}: {}", path.display(), error));
+    }
+}
+
+/// Document 01's words for the numbers of this story.
+fn meaning(number: u64) -> &'static str {
+    match number {
+        0 => "done",
+        7 => "proof length not that of the path",
+        8 => "first d is not the entry's",
+        10 => "link differs",
+        11 => "last digest differs",
+        12 => "wrong T",
+        _ => "refused",
+    }
+}
+
+/// Tells a call and its answer, and ends the story where that is not the expected one.
+fn tell(call: &str, answer: Answer, expected: [u64; 2], said: &str) {
+    println!("  {:<46}{:>2} {}{}", call, answer.number, meaning(answer.number), said);
+    if [answer.number, answer.beside[0]] != expected {
+        eprintln!("The expected answer is {} with {}.", expected[0], expected[1]);
+        process::exit(1);
+    }
+}
+
+/// Tells a call that answers with a number which has a name, and gives that number.
+fn tell_named(call: &str, answer: Answer, expected: [u64; 2], name: &str) -> u64 {
+    tell(call, answer, expected, &format!(", {} {}", name, answer.beside[0]));
+    answer.beside[0]
+}
+
+/// Tells a call that answers with document 01's number alone, which is 0.
+fn tell_done(call: &str, number: u64, said: &str) {
+    tell(call, Answer { number, beside: [0; 3] }, [0, 0], said);
+}
+
+/// The house starts its log.
+fn start(files: &Files) {
+    let mut store = vec![0xEE; HEADER + RECORD * ROOM];
+    tell_done("start", lotlog::start(&mut store, LOG), "");
+    files.write("store.lot", &store);
+}
+
+/// The house appends one lot.
+fn append(files: &Files, lot: &[u8], stop: u64) -> Answer {
+    let mut store = files.read("store.lot");
+    let answer = lotlog::append(&mut store, lot, stop);
+    files.write("store.lot", &store);
+    answer
+}
+
+/// The house appends lots, one by one; gives the count then held, the position of the last.
+fn append_all(files: &Files, lots: &[&[u8]], expected: u64, which: &str) -> u64 {
+    let answer = lots.iter().map(|lot| append(files, lot, WHOLE)).last().expect("a lot");
+    tell_named(&format!("append {} {}", lots.len(), which), answer, [0, expected], "count")
+}
+
+/// An append of the house is cut, and then made again; gives the count then held.
+fn append_twice(files: &Files, lot: &[u8], expected: u64) -> u64 {
+    let old = [0, expected - 1];
+    let call = format!("append one more, cut after {} stores", CUT);
+    tell_named(&call, append(files, lot, CUT), old, "count");
+    tell_named("count after the cut", lotlog::count(&files.read("store.lot")), old, "count");
+    tell_named("append it again", append(files, lot, WHOLE), [0, expected], "count")
+}
+
+/// What the house hands out at n: the digest, the advancement proof from i, and the membership
+/// proof of a lot. The two proofs have the lengths that are given.
+fn publish(files: &Files, lot: Lot, i: u64, n: u64, lengths: [u64; 2]) {
+    let store = files.read("store.lot");
+    let mut digest = [0; 32];
+    let number = lotlog::digest_at(&store, n, &mut digest);
+    let begin: String = digest[..8].iter().map(|byte| format!("{:02x}", byte)).collect();
+    tell_done(&format!("digest at {}", n), number, &format!(", {}..", begin));
+    files.write("digest", &digest);
+
+    let mut out = [0; 1024];
+    let answer = lotlog::build_advancement(&store, i, n, &mut out);
+    let call = format!("advancement proof from {} to {}", i, n);
+    let length = tell_named(&call, answer, [0, lengths[0]], "length");
+    files.write("proof.advance", &out[..length as usize]);
+
+    let answer = lotlog::build_membership(&store, lot.position, n, &mut out);
+    let call = format!("membership proof for lot {} of {}", lot.position, n);
+    let length = tell_named(&call, answer, [0, lengths[1]], "length");
+    files.write("proof.member", &out[..length as usize]);
+}
+
+/// The practice begins.
+fn hold_start(files: &Files) {
+    let mut held = [0; 688];
+    tell_done("held state at the start", lotlog::held_start(LOG, &mut held), "");
+    files.write("held.after", &held);
+}
+
+/// The practice advances to n from what it held after the last time.
+fn advance(files: &Files, n: u64, hops: u64) {
+    let mut held: Held = files.array("held.after");
+    files.write("held.before", &held);
+    let proof = files.read("proof.advance");
+    let answer = lotlog::check_advancement(&mut held, n, &files.array("digest"), &proof);
+    tell_named(&format!("advance to {}", n), answer, [0, hops], "hops");
+    files.write("held.after", &held);
+}
+
+/// The digest that a practice goes by: the one in its held state.
+fn held_digest(files: &Files, name: &str) -> Digest {
+    let held: Held = files.array(name);
+    held[16..48].try_into().expect("32 bytes")
+}
+
+/// The practice checks that the notice stands where the house says.
+fn check(files: &Files, notice: Lot, n: u64, hops: u64) {
+    let digest = held_digest(files, "held.after");
+    let proof = files.read("proof.member");
+    let answer = lotlog::check_membership(notice.entry, notice.position, n, &digest, &proof);
+    let call = format!("check that lot {} of {} is the notice", notice.position, n);
+    tell_named(&call, answer, [0, hops], "hops");
+}
+
+/// The same check, each time with one thing that is not so.
+fn refusals(files: &Files, notice: Lot, other: &[u8], n: u64) {
+    let proof = files.read("proof.member");
+    let digest = held_digest(files, "held.after");
+    let check = |entry: &[u8], digest: &Digest, proof: &[u8]| {
+        lotlog::check_membership(entry, notice.position, n, digest, proof)
+    };
+
+    // a bit of the second component's d: the first component, that of an odd number, has 64 bytes
+    let mut changed = proof.clone();
+    changed[64] ^= 1;
+    let answer = check(notice.entry, &digest, &changed);
+    tell_named("one bit of the proof changed", answer, [10, 1], "hops");
+    tell("another entry", check(other, &digest, &proof), [8, 0], "");
+    let answer = check(notice.entry, &digest, &proof[..proof.len() - 1]);
+    tell("the proof without its last byte", answer, [7, 0], "");
+    let old = held_digest(files, "held.before");
+    tell_named("an old digest", check(notice.entry, &old, &proof), [11, 3], "hops");
+}
+
+/// An audit of the store with one byte of a record changed.
+fn audit_changed(files: &Files, lot: Lot) {
+    let mut store = files.read("store.lot");
+    store[HEADER + RECORD * (lot.position as usize - 1)] ^= 1;
+    let call = format!("audit, a byte of lot {} changed", lot.position);
+    tell_named(&call, lotlog::audit(&store), [12, lot.position], "element");
+}
+
+/// Two practices compare what they were shown.
+fn dispute(files: &Files, notice: Lot, n: u64) {
+    let digest = held_digest(files, "held.after");
+    let proof = files.read("proof.member");
+    let side = Side { entry: notice.entry, proof: &proof };
+    let mut buffers = [[0; 4097]; 2];
+    let [first, second] = &mut buffers;
+    let answer = lotlog::dispute([side, side], notice.position, n, &digest, [first, second]);
+    let said = if answer.beside[0] == 1 { ", same" } else { ", not the same" };
+    tell("dispute", answer, [0, 1], said);
+}
+
+fn story(lots: &[&[u8]], files: &Files) {
+    println!("The house starts log {} in a file with room for {} lots.", LOG, ROOM);
+    start(files);
+    let at = lots.iter().position(|lot| lot.starts_with(b"WITHDRAWN")).expect("a notice");
+    let position = append_all(files, &lots[..=at], 5, "lots, the last a withdrawal notice");
+    let notice = Lot { entry: lots[at], position };
+    append_all(files, &lots[at + 1..7], 7, "more");
+    let early = append_twice(files, lots[7], 8);
+    publish(files, notice, 0, early, [160, 320]);
+
+    println!("A practice starts with the number of the log and no more.");
+    hold_start(files);
+    advance(files, early, 1);
+    check(files, notice, early, 2);
+
+    println!("The house appends the rest, and the practice goes on.");
+    let late = append_all(files, &lots[8..], 12, "more");
+    publish(files, notice, early, late, [128, 448]);
+    advance(files, late, 1);
+    check(files, notice, late, 3);
+    tell_named("audit", lotlog::audit(&files.read("store.lot")), [0, 12], "count");
+
+    println!("What is not so is refused.");
+    refusals(files, notice, lots[0], late);
+    audit_changed(files, notice);
+
+    println!("Two practices were shown the same proof.");
+    dispute(files, notice, late);
+    println!("Every answer is the expected one.");
+}
+
+fn main() {
+    let arguments: Vec<String> = env::args().skip(1).collect();
+    match &arguments[..] {
+        [lots, folder] => {
+            let text = fs::read_to_string(lots).expect("the lots");
+            let lots: Vec<&[u8]> = text.lines().map(str::as_bytes).collect();
+            story(&lots, &Files(folder.into()));
+        }
+        _ => panic!("usage: demo-story LOTS FOLDER"),
+    }
+}
