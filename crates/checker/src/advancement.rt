@@ -93,7 +93,10 @@ fn verdict_by(v: Hop, hops: u64) -> Advance
     match v {
         Hop::Good => Advance::Accepted { hops: hops },
         Hop::Row { element: _, row: _ } => Advance::RowDiffers { hops: hops },
-        Hop::Link { element: _, level: _ } => Advance::LinkDiffers { hops: hops },
+        Hop::Link {
+            element: _,
+            level: _,
+        } => Advance::LinkDiffers { hops: hops },
     }
 }
 

@@ -9,10 +9,10 @@ ghost use Rattle.rules.specs.Messages.{size, total};
 ghost use Rattle.rules.specs.Checking.{isAccepted, walk, member};
 ghost use Rattle.checker.specs.Verdicts.{verdictOf};
 ghost use Rattle.checker.specs.Hopping.{hopOf};
+use hash::Digest;
 use messages::component_at;
 use messages::row_is;
 use messages::same_digest;
-use hash::Digest;
 use path::Length;
 use path::Position;
 
