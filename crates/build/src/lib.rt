@@ -1,0 +1,172 @@
+// What the house makes from a store: membership and advancement proofs, written into lent output, and the state that a practice holds at a
+// length. Digests are taken as they are stored; only the audit judges those.
+ghost use mathlib.Core.Path.{_≡_};
+ghost use mathlib.Core.Bool.{_&&_};
+ghost use Prim.Native.Nat.{_+_, _≤_, _<_};
+ghost use lib.Dec.{leb};
+ghost use lib.ListN.{length};
+ghost use lib.Seq.{paste};
+ghost use Rattle.hash.specs.Hash.{hashOf};
+ghost use Rattle.rules.specs.Numbers.{v1, limit};
+ghost use Rattle.rules.specs.Paths.{pathAfter};
+ghost use Rattle.rules.specs.Messages.{size, total};
+ghost use Rattle.rules.specs.Store.{place, tOf};
+ghost use Rattle.rules.specs.Held.{rowOf, basis};
+ghost use Rattle.rules.specs.Calls.{written, heldCall, buildMembershipCall, buildAdvancementCall};
+ghost use Rattle.held.specs.Holding.{rowsOf};
+ghost use Rattle.build.specs.Parts.{componentIn, advancementIn};
+ghost use Rattle.build.specs.Told.{builtTold, heldTold};
+use hash::Digest;
+use held::Held;
+use path::Length;
+use path::Position;
+use store::Counted;
+use store::Found;
+
+// What building a proof comes to; `size` is the bytes of the proof.
+pub enum Built {
+    Written { size: u64 },
+    Damaged,
+    NoSuchNumber,
+    OutputShort,
+}
+
+// Writes the component of element j into out from index `to`.
+fn put_component(s: &[u8], j: Position, out: &mut [u8], to: usize)
+    requires { ⌜ (1 ≤ j .0) × (place v1 (j .0) ≤ length (now s)) × (j .0 ≤ limit v1) × (to + size v1 (j .0) ≤ length (now out)) ⌝ }
+    ensures { λ _. ⌜ now (out .exit) ≡ paste (now (out .entry)) to (componentIn hashOf v1 (now (s .entry)) (j .0)) (size v1 (j .0)) ⌝ }
+{
+    let d = store::layout::body_of(s, j);
+    lists::put(out, to, d, d.len());
+    store::layout::put_links(s, j, out, to + d.len());
+}
+
+// Writes the components on the path from i to n, without that of i, into out from index `at`.
+fn put_after(s: &[u8], i: Position, n: Length, out: &mut [u8], at: usize)
+    requires { ⌜ (i .0 ≤ n .0) × (n .0 ≤ limit v1) × (place v1 (n .0) ≤ length (now s)) × (at + total v1 (pathAfter (i .0) (n .0)) ≤ length (now out)) ⌝ }
+    ensures { λ _. ⌜ now (out .exit) ≡ paste (now (out .entry)) at (advancementIn hashOf v1 (now (s .entry)) (i .0) (n .0)) (total v1 (pathAfter (i .0) (n .0))) ⌝ }
+{
+    let mut j = i;
+    let mut to = at;
+    while j.0 < n.0 {
+        let r = path::hop(j, n);
+        let next = r.to;
+        put_component(s, next, out, to);
+        to += path::component_len(next);
+        j = next;
+    }
+}
+
+// Whether a log of so many elements goes from i to n.
+fn covers(count: Length, i: Length, n: Length) -> bool
+    ensures { λ r. ⌜ r ≡ (leb (i .0) (n .0) && leb (n .0) (count .0)) ⌝ }
+{
+    i.0 <= n.0 && n.0 <= count.0
+}
+
+// Writes the membership proof of element i in the log of n elements to the start of out. What stands behind it stays.
+pub fn membership(store: &[u8], i: Position, n: Length, out: &mut [u8]) -> Built
+    ensures { λ r. ⌜ written (builtTold r) (now (out .exit)) ≡ buildMembershipCall hashOf v1 (now (store .entry)) (i .0) (n .0) (now (out .entry)) ⌝ }
+{
+    let counted = store::count(store);
+    let Counted::Count(count) = counted else {
+        return Built::Damaged;
+    };
+    if i.0 == 0 {
+        return Built::NoSuchNumber;
+    }
+    if !covers(count, Length(i.0), n) {
+        return Built::NoSuchNumber;
+    }
+    let size = path::membership_len(i, n);
+    if out.len() < size {
+        return Built::OutputShort;
+    }
+    put_component(store, i, out, 0);
+    put_after(store, i, n, out, path::component_len(i));
+    Built::Written { size: size as u64 }
+}
+
+// Writes the advancement proof from i to n elements to the start of out. What stands behind it stays.
+pub fn advancement(store: &[u8], i: Length, n: Length, out: &mut [u8]) -> Built
+    ensures { λ r. ⌜ written (builtTold r) (now (out .exit)) ≡ buildAdvancementCall hashOf v1 (now (store .entry)) (i .0) (n .0) (now (out .entry)) ⌝ }
+{
+    let counted = store::count(store);
+    let Counted::Count(count) = counted else {
+        return Built::Damaged;
+    };
+    if !covers(count, i, n) {
+        return Built::NoSuchNumber;
+    }
+    let size = path::advancement_len(i, n);
+    if out.len() < size {
+        return Built::OutputShort;
+    }
+    put_after(store, Position(i.0), n, out, 0);
+    Built::Written { size: size as u64 }
+}
+
+// The state that a practice holds; all zeros beside a refusal.
+pub struct HeldRead {
+    pub found: Found,
+    pub held: Held,
+}
+
+// A row of the state at a length: it is in use by the bit of its level, and then holds T of the length with the bits up to that cleared.
+fn basis_row(s: &[u8], at: Length, level: usize) -> Digest
+    requires { ⌜ (place v1 (at .0) ≤ length (now s)) × (at .0 ≤ limit v1) × (level < v1 .levels) ⌝ }
+    ensures { λ r. ⌜ r .bytes ≡ rowOf (tOf hashOf v1 (now (s .entry))) (at .0) level ⌝ }
+{
+    if (at.0 >> level) % 2 == 0 {
+        return Digest { bytes: [0u8; 32] };
+    }
+    let above = level + 1;
+    let cleared = Length((at.0 >> above) << above);
+    store::layout::stored_digest(s, cleared)
+}
+
+// The rows of the state at a length.
+fn basis_rows(s: &[u8], at: Length) -> [Digest; held::LEVELS]
+    requires { ⌜ (place v1 (at .0) ≤ length (now s)) × (at .0 ≤ limit v1) ⌝ }
+    ensures { λ r. ⌜ rowsOf r ≡ basis (tOf hashOf v1 (now (s .entry))) (at .0) 0 (v1 .levels) ⌝ }
+{
+    let zero = Digest { bytes: [0u8; 32] };
+    let mut rows = [zero; held::LEVELS];
+    let mut l: usize = 0;
+    while l < held::LEVELS {
+        let row = basis_row(s, at, l);
+        rows[l] = row;
+        l += 1;
+    }
+    rows
+}
+
+// The state that a practice holds at a length, as the store gives it.
+pub fn held_at(store: &[u8], at: Length) -> HeldRead
+    ensures { λ r. ⌜ heldTold r ≡ heldCall hashOf v1 (now (store .entry)) (at .0) ⌝ }
+{
+    let counted = store::count(store);
+    let Counted::Count(count) = counted else {
+        return HeldRead {
+            found: Found::Damaged,
+            held: held::all_zeros(),
+        };
+    };
+    if count.0 < at.0 {
+        return HeldRead {
+            found: Found::NoSuchNumber,
+            held: held::all_zeros(),
+        };
+    }
+    let digest = store::layout::stored_digest(store, at);
+    let rows = basis_rows(store, at);
+    HeldRead {
+        found: Found::Done,
+        held: Held {
+            log: store::layout::log_of(store),
+            count: at,
+            digest: digest,
+            rows: rows,
+        },
+    }
+}
