@@ -3,14 +3,13 @@ use mathlib.Core.Path.{_≡_, refl, sym, ap, ap₂, _∙_}
 use mathlib.Core.Logic.{_⊎_, inl, inr}
 use mathlib.Core.Bool.{Bool, true, false}
 use mathlib.Core.List.{List}
-use Prim.Native.Nat.{ℕ, suc, _+_, _-_, _/_, _%_, _^_, _≤_, _<_}
+use Prim.Native.Nat.{ℕ, suc, _+_, _-_, _/_, _^_, _≤_, _<_}
 use native.Mathlib.Nat.{zero-add}
 use native.Mathlib.Numerals.{add-one}
 use native.Mathlib.Omega.{arith}
 use denote.Enum.Declared.{tagOf}
 use lib.Pow.{pow-pos, lt-of-le-ones}
-use lib.ListN.{length, drop, length-drop}
-use lib.Seq.{length-take-le}
+use lib.ListN.{length, drop}
 use Rattle.lists.specs.Bytes.{Bytes, same}
 use Rattle.hash.specs.Hash.{hashOf}
 use Rattle.rules.specs.Numbers.{v1, limit}
@@ -19,7 +18,7 @@ use Rattle.rules.specs.Messages.{size, total, row, part}
 use Rattle.rules.specs.Refusals.{rowDiffers, linkDiffers, digestDiffers}
 use Rattle.rules.specs.Held.{Held}
 use Rattle.rules.specs.Checking.{Verdict, accepted, refused, must, hopped, advanceWalk}
-use Rattle.rules.specs.Calls.{Advanced, advanceAnswer}
+use Rattle.rules.specs.Calls.{advanceAnswer}
 use Rattle.rules.specs.Hops.{level-hop, level-below, hops-step}
 use Rattle.rules.specs.Bounds.{total-first, total-after-step}
 use Rattle.rules.specs.Walking.{advance-walk-end}
@@ -28,6 +27,7 @@ use Rattle.held.specs.declared.Rows.the-variants.{Agree, Differ}
 use Rattle.held.specs.Rows.{rowsSay, agree, agrees-said}
 use Rattle.checker.specs.declared.advancement.Hop.{Hop}
 use Rattle.checker.specs.declared.advancement.Hop.the-variants.{Good, Row, Link}
+use Rattle.checker.specs.Parts.{part-length}
 use Rattle.checker.specs.Advancing.{answerOf, Step, Ready, hopBy, hopOf, verdictBy}
 use Rattle.checker.proofs.advancement.Hop.{the-type}
 
@@ -98,7 +98,7 @@ module _ {n : ℕ} {p D : Bytes} {h₀ h : Held} {o k : ℕ} (s : Stands n p D h
     -- the code finds the level l and the end m, and reads x there: it is ready for the hop, and the hop is this one
     module _ {l m : ℕ} {x : Bytes} (el : l ≡ level (h .count) n) (em : m ≡ toward h n) (ex : x ≡ part v1 p o m) where
       pub long : length x ≡ size v1 (toward h n)
-      long = ap length ex ∙ rw em (length-take-le (size v1 (toward h n)) (drop o p) (omega (arith, inside, length-drop o p)))
+      long = ap length ex ∙ rw em (part-length p o (toward h n) inside)
 
       pub ready : n ≤ limit v1 → Ready h l m x
       ready top =

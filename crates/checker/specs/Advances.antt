@@ -100,7 +100,14 @@ module _ (h : Held) (n : Length) (D : Digest) (p : Bytes) (r : Advanced) (e : An
     pub accepted-in-order : rules.inOrder hashOf v1 (holds (r .held)) ≡ true
     accepted-in-order = advance-in-order hashOf v1 (holds h) (n .0) (D .bytes) p (k, holds (r .held)) accepted-is
 
--- ---- HONEST PROOFS ARE ACCEPTED: digests T of a log that obey the rules up to n, its bodies, and T(0) of its number
+-- ---- honest proofs
+
+-- The state at the start is the one that the digests of the log give at 0.
+pub begins : (log : ℕ) (T : ℕ → Bytes) → T 0 ≡ hashOf (startMsg v1 log) → (h : Held) → holds h ≡ rules.heldStart hashOf v1 log → holds h ≡ rules.heldOf v1 log T 0
+unfolding rules.basis
+begins log T start h e = e ∙ ap (λ (t : Bytes). record { log = log; count = 0; digest = t; rows = rules.noRows v1 }) (sym start)
+
+-- HONEST PROOFS ARE ACCEPTED: digests T of a log that obey the rules up to n, its bodies, and T(0) of its number
 
 module _ (log : ℕ) (body T : ℕ → Bytes) (n : Length) (L : Lawful hashOf v1 body T (n .0)) (start : T 0 ≡ hashOf (startMsg v1 log)) (top : n .0 ≤ limit v1) where
   -- The state that they give at i takes the honest proof to n, and the state at n comes back.
@@ -110,8 +117,3 @@ module _ (log : ℕ) (body T : ℕ → Bytes) (n : Length) (L : Lawful hashOf v1
       e
       ∙ ap₂ (λ (g : rules.Held) (d : Bytes). calls.advanceCall hashOf v1 g (n .0) d (advancementProof body T i (n .0))) eh eD
       ∙ ap (calls.advanceAnswer (rules.heldOf v1 log T i)) (honest-advance hashOf v1 log body T (n .0) L (lit≤ tt) top start i up)
-
-  -- The state at the start is the one that they give at 0.
-  pub begins : (h : Held) → holds h ≡ rules.heldStart hashOf v1 log → holds h ≡ rules.heldOf v1 log T 0
-  unfolding rules.basis
-  begins h e = e ∙ ap (λ (t : Bytes). record { log = log; count = 0; digest = t; rows = rules.noRows v1 }) (sym start)

@@ -1,24 +1,21 @@
 -- Checking an advancement: 01's number and values for each verdict, and one hop as the code takes it.
 use mathlib.Core.Path.{_≡_, refl, sym, ap, _∙_}
 use mathlib.Core.Bool.{Bool, true, false, cond}
-use mathlib.Core.List.{List}
 use Prim.Native.Nat.{ℕ, suc, _+_, _/_, _%_, _^_, _<_}
 use lib.Dec.{eqb}
 use lib.ListN.{length, drop}
 use Rattle.lists.specs.Bytes.{Bytes, same}
 use Rattle.hash.specs.Hash.{hashOf}
 use Rattle.rules.specs.Numbers.{v1}
-use Rattle.rules.specs.Paths.{level, hops}
-use Rattle.rules.specs.Messages.{elementMsg, size, row, part}
+use Rattle.rules.specs.Messages.{elementMsg, size, row}
 use Rattle.rules.specs.Refusals.{stateBroken, noSuchNumber, wrongLength, rowDiffers, linkDiffers, digestDiffers}
 use Rattle.rules.specs.Held as rules
-use Rattle.rules.specs.Checking.{Verdict, refused, must, rowsAfter, advanceWalk}
+use Rattle.rules.specs.Checking.{rowsAfter}
 use Rattle.rules.specs.Calls as calls
-use Rattle.rules.specs.Hops.{hops-step}
 use Rattle.held.specs.declared.Rows.{Rows}
 use Rattle.held.specs.declared.Rows.the-variants.{Agree, Differ}
 use Rattle.held.specs.Holding.{holds, heldFrom, held-back}
-use Rattle.held.specs.Rows.{rowsSay, agree, agrees-said}
+use Rattle.held.specs.Rows.{rowsSay}
 use Rattle.checker.specs.declared.advancement.Advance.{Advance}
 use Rattle.checker.specs.declared.advancement.Advance.the-variants.{Accepted, StateBroken, NoSuchLength, WrongLength, RowDiffers, LinkDiffers, DigestDiffers}
 use Rattle.checker.specs.declared.advancement.Advanced.{Advanced}

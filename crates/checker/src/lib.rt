@@ -1,6 +1,6 @@
-// What a practice does with what the house sends: it checks a proof before it believes it.
-mod advancement; // that the log has gone on from what is held
-mod membership; // that an entry is an element of the log
+// What a practice does with what the house sends: it checks that an entry is an element of the log, and that the log it holds a state of has gone on.
+mod advancement; // checking an advancement
+mod membership; // checking membership
 
 pub use advancement::Advance;
 pub use advancement::Advanced;

@@ -1,9 +1,8 @@
 -- The code's state as the state that the rules speak of, and back: so an equation of what a state holds pins the state.
-use mathlib.Core.Path.{_≡_, refl, ap, ap₂}
+use mathlib.Core.Path.{_≡_, refl, ap}
 use mathlib.Core.List.{List, [], _∷_, map}
 use Rattle.lists.specs.Bytes.{Bytes}
 use Rattle.hash.specs.declared.Digest.{Digest}
-use Rattle.path.specs.declared.Length.{Length}
 use Rattle.rules.specs.Held as rules
 use Rattle.rules.specs.OneOutcome.{One, one-outcome}
 use Rattle.held.specs.declared.Held.{Held}

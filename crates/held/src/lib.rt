@@ -125,12 +125,12 @@ pub fn compare_rows(h: Held, level: u32, component: &[u8]) -> Rows
     Rows::Agree
 }
 
-// The rows after a good hop of this level: the digest goes to the first free row, or it is the last row in use below that which moves there.
+// The rows after a good hop of this level: its row, if free, takes the digest held; else the last value in use moves to the first free row, and the
+// rows before that become zero.
 pub fn carry(h: Held, level: u32) -> [Digest; LEVELS]
     requires { ⌜ level < 64 ⌝ }
     ensures { λ r. ⌜ rowsOf r ≡ rowsAfter level (holds h) ⌝ }
 {
-    let zero = Digest { bytes: [0u8; 32] };
     let mut rows = h.rows;
     let mut moving = h.digest;
     let mut bits = h.count.0 >> level;
@@ -141,6 +141,7 @@ pub fn carry(h: Held, level: u32) -> [Digest; LEVELS]
             return rows;
         }
         let row = rows[c];
+        let zero = Digest { bytes: [0u8; 32] };
         rows[c] = zero;
         moving = row;
         bits /= 2;

@@ -1,10 +1,9 @@
 -- Steps of the functions that feed bytes to a state, on plain numbers and lists.
-use mathlib.Core.Path.{_≡_, refl, sym, ap, ap₂, _∙_}
-use mathlib.Core.List.{[], _∷_, _++_}
+use mathlib.Core.Path.{_≡_, sym, _∙_}
 use Prim.Native.Nat.{ℕ, suc, _+_, _-_, _*_, _/_, _%_, _≤_, _<_}
 use native.Mathlib.Omega.{arith}
 use lib.ListN.{length, take, drop, length-drop}
-use lib.Seq.{sets, take-all, drop-drop}
+use lib.Seq.{sets, take-all}
 use Rattle.lists.specs.Laws.{sets-end}
 use Rattle.sha256.specs.Sha256.{Bytes, compress, chained}
 use Rattle.sha256.specs.Stream.{emptied, absorbed}

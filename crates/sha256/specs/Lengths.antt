@@ -1,14 +1,13 @@
 -- How long a digest is, and a padded message.
 use mathlib.Core.Path.{_≡_, refl}
 use mathlib.Core.Bool.{Bool, true, false, cond}
-use mathlib.Core.List.{_++_}
 use Prim.Native.Nat.{ℕ, _+_, _-_, _%_, _<_}
 use native.Mathlib.Omega.{arith}
 use lib.Dec.{ltb}
 use lib.ListN.{length, length-append, length-replicate}
 use Rattle.sha256.specs.Sha256.{Bytes, padding, padded, sha256}
 use Rattle.sha256.specs.Stream.{limit, broken, finished, hashed}
-use Rattle.sha256.specs.Outcomes.{answered, refused}
+use Rattle.sha256.specs.Outcomes.{refused}
 use Rattle.sha256.specs.declared.HashState.{HashState}
 use Rattle.sha256.specs.declared.Hashed.{Hashed}
 

@@ -1,6 +1,6 @@
 -- What each call gives, told by its tests.
-use mathlib.Core.Path.{_≡_, refl, ap, _∙_}
-use mathlib.Core.Bool.{Bool, true, false, not, _||_}
+use mathlib.Core.Path.{_≡_, refl, _∙_}
+use mathlib.Core.Bool.{Bool, true, false, cond, not, _||_}
 use Prim.Native.Nat.{ℕ, _+_, _%_, _≤_, _<_}
 use native.Mathlib.Omega.{arith}
 use borrow.Author.Tests.{le-ltb, lt-ltb, ltb-false, eq-eqb, ne-eqb, eqb-true}
@@ -63,6 +63,16 @@ module _ (s : HashState) where
     pub taken-fits : broken s ≡ false → s .total + length m ≤ limit → taken s m ≡ told 0 (absorbed s m)
     unfolding taken
     taken-fits b h = rw (b, le-ltb limit (s .total + length m) h)
+
+kept : (b d : Bool) (s u : HashState) → (cond b (told 2 s) (cond d (told 3 s) (told 0 u)) .number ≡ 0 → ⊥) → cond b (told 2 s) (cond d (told 3 s) (told 0 u)) .state ≡ s
+kept true d s u h = refl
+kept false true s u h = refl
+kept false false s u h = absurd (h refl)
+
+-- a refused state is as it came
+pub taken-refused : (s : HashState) (m : Bytes) → (taken s m .number ≡ 0 → ⊥) → taken s m .state ≡ s
+unfolding taken
+taken-refused s m h = kept (broken s) (ltb limit (s .total + length m)) s (absorbed s m) h
 
 pub hashed-long : (m : Bytes) → limit < length m → hashed m ≡ refused 3
 unfolding hashed

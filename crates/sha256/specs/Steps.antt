@@ -1,5 +1,5 @@
 -- The schedule and the rounds of a block, some at a time: what each turn of the loops below `compress` adds.
-use mathlib.Core.Path.{_≡_, _∙_}
+use mathlib.Core.Path.{_≡_}
 use mathlib.Core.List.{List}
 use Prim.Native.Nat.{ℕ, _+_}
 use native.Mathlib.Nat.{add-assoc}

@@ -25,7 +25,7 @@ begun = emptied H0 0
 unfoldable pub absorb : HashState → ℕ → HashState
 absorb s x =
     cond (eqb (s .fill + 1) 64)
-    (record { words = compress (s .words) (set (s .bytes) (s .fill) x); bytes = replicate 64 0; fill = 0; total = s .total + 1 })
+    (emptied (compress (s .words) (set (s .bytes) (s .fill) x)) (s .total + 1))
     (record { words = s .words; bytes = set (s .bytes) (s .fill) x; fill = s .fill + 1; total = s .total + 1 })
 
 -- bytes, one after another

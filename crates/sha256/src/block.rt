@@ -2,7 +2,7 @@
 ghost use mathlib.Core.Path.{_≡_};
 ghost use Prim.Native.Nat.{_+_, _-_, _<_, _≤_};
 ghost use lib.ListN.{length, getD};
-ghost use Rattle.sha256.specs.Sha256 as Spec;
+ghost use Rattle.sha256.specs.Sha256 as Fips;
 ghost use Rattle.sha256.specs.Steps.{Scheduled, Rounded};
 use crate::Words;
 use std::num::wrapping_add_u32;
@@ -76,37 +76,37 @@ const K: [u32; 64] = [
 ];
 
 fn big0(x: u32) -> u32
-    ensures { λ r. ⌜ r ≡ Spec.Σ0 x ⌝ }
+    ensures { λ r. ⌜ r ≡ Fips.Σ0 x ⌝ }
 {
     ((x >> 2) | (x << 30)) ^ ((x >> 13) | (x << 19)) ^ ((x >> 22) | (x << 10))
 }
 
 fn big1(x: u32) -> u32
-    ensures { λ r. ⌜ r ≡ Spec.Σ1 x ⌝ }
+    ensures { λ r. ⌜ r ≡ Fips.Σ1 x ⌝ }
 {
     ((x >> 6) | (x << 26)) ^ ((x >> 11) | (x << 21)) ^ ((x >> 25) | (x << 7))
 }
 
 fn small0(x: u32) -> u32
-    ensures { λ r. ⌜ r ≡ Spec.σ0 x ⌝ }
+    ensures { λ r. ⌜ r ≡ Fips.σ0 x ⌝ }
 {
     ((x >> 7) | (x << 25)) ^ ((x >> 18) | (x << 14)) ^ (x >> 3)
 }
 
 fn small1(x: u32) -> u32
-    ensures { λ r. ⌜ r ≡ Spec.σ1 x ⌝ }
+    ensures { λ r. ⌜ r ≡ Fips.σ1 x ⌝ }
 {
     ((x >> 17) | (x << 15)) ^ ((x >> 19) | (x << 13)) ^ (x >> 10)
 }
 
 fn ch(x: u32, y: u32, z: u32) -> u32
-    ensures { λ r. ⌜ r ≡ Spec.ch x y z ⌝ }
+    ensures { λ r. ⌜ r ≡ Fips.ch x y z ⌝ }
 {
     (x & y) ^ (!x & z)
 }
 
 fn maj(x: u32, y: u32, z: u32) -> u32
-    ensures { λ r. ⌜ r ≡ Spec.maj x y z ⌝ }
+    ensures { λ r. ⌜ r ≡ Fips.maj x y z ⌝ }
 {
     (x & y) ^ (x & z) ^ (y & z)
 }
@@ -120,7 +120,7 @@ fn wide(x: u8) -> u32
 // The big-endian word at a place.
 fn load(s: &[u8], at: usize) -> u32
     requires { ⌜ at + 4 ≤ length (now s) ⌝ }
-    ensures { λ r. ⌜ r ≡ Spec.word (now (s .entry)) at ⌝ }
+    ensures { λ r. ⌜ r ≡ Fips.word (now (s .entry)) at ⌝ }
 {
     wide(s[at]) * 0x100_0000
         + wide(s[at + 1]) * 0x1_0000
@@ -130,7 +130,7 @@ fn load(s: &[u8], at: usize) -> u32
 
 // A word of the schedule from the four that it goes by.
 fn mix(w2: u32, w7: u32, w15: u32, w16: u32) -> u32
-    ensures { λ r. ⌜ r ≡ Spec.mix w2 w7 w15 w16 ⌝ }
+    ensures { λ r. ⌜ r ≡ Fips.mix w2 w7 w15 w16 ⌝ }
 {
     wrapping_add_u32(
         wrapping_add_u32(wrapping_add_u32(small1(w2), w7), small0(w15)),
@@ -141,7 +141,7 @@ fn mix(w2: u32, w7: u32, w15: u32, w16: u32) -> u32
 // The schedule's word t, from those before it.
 fn later(w: &[u32; 64], t: usize) -> u32
     requires { ⌜ (16 ≤ t) × (t < 64) ⌝ }
-    ensures { λ r. ⌜ r ≡ Spec.mix (getD (now (w .entry)) (t - 2) 0) (getD (now (w .entry)) (t - 7) 0) (getD (now (w .entry)) (t - 15) 0) (getD (now (w .entry)) (t - 16) 0) ⌝ }
+    ensures { λ r. ⌜ r ≡ Fips.mix (getD (now (w .entry)) (t - 2) 0) (getD (now (w .entry)) (t - 7) 0) (getD (now (w .entry)) (t - 15) 0) (getD (now (w .entry)) (t - 16) 0) ⌝ }
 {
     mix(w[t - 2], w[t - 7], w[t - 15], w[t - 16])
 }
@@ -172,7 +172,7 @@ fn eight_words(w: &mut [u32; 64], t: usize)
 // Stores the sixty-four words of a block's schedule.
 fn schedule(block: &[u8], w: &mut [u32; 64])
     requires { ⌜ (length (now block) ≡ 64) × (length (now w) ≡ 64) ⌝ }
-    ensures { λ r. ⌜ now (w .exit) ≡ Spec.schedule 64 (now (block .entry)) ⌝ }
+    ensures { λ r. ⌜ now (w .exit) ≡ Fips.schedule 64 (now (block .entry)) ⌝ }
 {
     let mut t: usize = 0;
     while t < 16 {
@@ -187,14 +187,14 @@ fn schedule(block: &[u8], w: &mut [u32; 64])
 
 // The constants, as one value: a round that indexed `K` itself would copy all of it.
 fn keys() -> [u32; 64]
-    ensures { λ r. ⌜ r ≡ Spec.K ⌝ }
+    ensures { λ r. ⌜ r ≡ Fips.K ⌝ }
 {
     K
 }
 
 // One round, with its constant k and its word w.
 fn round(v: Words, k: u32, w: u32) -> Words
-    ensures { λ r. ⌜ r ≡ Spec.round k w v ⌝ }
+    ensures { λ r. ⌜ r ≡ Fips.round k w v ⌝ }
 {
     let p = wrapping_add_u32(wrapping_add_u32(v.h, big1(v.e)), ch(v.e, v.f, v.g));
     let t1 = wrapping_add_u32(wrapping_add_u32(p, k), w);
@@ -213,7 +213,7 @@ fn round(v: Words, k: u32, w: u32) -> Words
 
 // Round t, with the constants k and the schedule w.
 fn next_round(v: Words, k: &[u32; 64], w: &[u32; 64], t: usize) -> Words
-    requires { ⌜ (t < 64) × (now k ≡ Spec.K) ⌝ }
+    requires { ⌜ (t < 64) × (now k ≡ Fips.K) ⌝ }
     ensures { λ r. ⌜ Rounded t 1 (now (w .entry)) v r ⌝ }
 {
     round(v, k[t], w[t])
@@ -221,7 +221,7 @@ fn next_round(v: Words, k: &[u32; 64], w: &[u32; 64], t: usize) -> Words
 
 // Eight rounds in a row: no word is moved between them.
 fn eight_rounds(v: Words, k: &[u32; 64], w: &[u32; 64], t: usize) -> Words
-    requires { ⌜ (t + 8 ≤ 64) × (now k ≡ Spec.K) ⌝ }
+    requires { ⌜ (t + 8 ≤ 64) × (now k ≡ Fips.K) ⌝ }
     ensures { λ r. ⌜ Rounded t 8 (now (w .entry)) v r ⌝ }
 {
     let v1 = next_round(v, k, w, t);
@@ -235,7 +235,7 @@ fn eight_rounds(v: Words, k: &[u32; 64], w: &[u32; 64], t: usize) -> Words
 }
 
 fn plus(s: Words, v: Words) -> Words
-    ensures { λ r. ⌜ r ≡ Spec.plus s v ⌝ }
+    ensures { λ r. ⌜ r ≡ Fips.plus s v ⌝ }
 {
     Words {
         a: wrapping_add_u32(s.a, v.a),
@@ -250,9 +250,9 @@ fn plus(s: Words, v: Words) -> Words
 }
 
 // The hash value after one more block.
-pub fn compress(s: Words, block: &[u8]) -> Words
+pub(crate) fn compress(s: Words, block: &[u8]) -> Words
     requires { ⌜ length (now block) ≡ 64 ⌝ }
-    ensures { λ r. ⌜ r ≡ Spec.compress s (now (block .entry)) ⌝ }
+    ensures { λ r. ⌜ r ≡ Fips.compress s (now (block .entry)) ⌝ }
 {
     let k = keys();
     let mut w = [0u32; 64];

@@ -1,6 +1,6 @@
 -- `held::carry` meets its contract: the carry from row c up, with what moves, comes to the same at each turn.
 use mathlib.Core.Path.{_≡_, refl, sym, ap, _∙_}
-use Prim.Native.Nat.{ℕ, _+_, _-_}
+use Prim.Native.Nat.{_-_}
 use native.Mathlib.Omega.{arith}
 use borrow.Author.Needs.{needs}
 use lib.ListN.{length, length-set}
@@ -10,15 +10,13 @@ use Rattle.held.specs.Holding.{rowsOf}
 use Rattle.held.proofs.Turns.{is-used, zeroDigest, is-free, rows-long, rows-set, carriedFrom, carry-stop, carry-turn, carry-end}
 use Rattle.held.proofs.carry.Statement.{statement}
 use Rattle.held.proofs.carry.Tie as tie
-use Rattle.held.proofs.carry.Reads as reads
-use Rattle.held.proofs.carry.Lts as lts
 
 abbrev Inv-loop : tie.InvT-loop
-Inv-loop level zero rows₀ moving₀ bits₀ c₀ rows moving bits c =
+Inv-loop level rows₀ moving₀ bits₀ c₀ rows moving bits c =
     (length (rowsOf rows) ≡ v1 .levels) × (carriedFrom c₀ bits₀ (rowsOf rows₀) (moving₀ .bytes) ≡ carriedFrom c bits (rowsOf rows) (moving .bytes))
 
 abbrev μ-loop : tie.MeasureT-loop
-μ-loop level zero rows₀ moving₀ bits₀ c₀ rows moving bits c = v1 .levels - c
+μ-loop level rows₀ moving₀ bits₀ c₀ rows moving bits c = v1 .levels - c
 
 shr-bits : tie.Need-shr-bits Inv-loop μ-loop
 shr-bits c = search needs

@@ -1,7 +1,7 @@
 -- `held::compare_rows` meets its contract: what the rows from c up say is what all of them say, as long as each was good and in use.
 use mathlib.Core.Path.{_≡_, refl, sym, _∙_}
 use mathlib.Core.Bool.{Bool, true, false, cond}
-use Prim.Native.Nat.{ℕ, suc, _+_, _-_, _*_, _/_, _^_}
+use Prim.Native.Nat.{suc, _+_, _-_, _*_, _/_, _^_}
 use native.Mathlib.Omega.{arith}
 use borrow.Author.Needs.{needs}
 use borrow.Author.Tests.{not-true, not-false}
@@ -14,9 +14,6 @@ use Rattle.held.specs.Rows.{rowsSay}
 use Rattle.held.proofs.Turns.{is-used, is-free, rows-long, linked, reached, say-free, say-turn, say-end}
 use Rattle.held.proofs.compare_rows.Statement.{statement}
 use Rattle.held.proofs.compare_rows.Tie as tie
-use Rattle.held.proofs.compare_rows.Reads as reads
-use Rattle.held.proofs.compare_rows.Lts as lts
-use Rattle.messages.proofs.row_is.Reads as row-is-reads
 
 abbrev Inv-loop : tie.InvT-loop
 Inv-loop level component rows q₀ c₀ q c =

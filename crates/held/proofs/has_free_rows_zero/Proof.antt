@@ -1,7 +1,7 @@
 -- `held::has_free_rows_zero` meets its contract: what the rows from c up say is what all of them say, as long as none failed.
 use mathlib.Core.Path.{_≡_, refl, sym, ap, _∙_}
 use mathlib.Core.Bool.{Bool, true, false, _&&_, _||_}
-use Prim.Native.Nat.{ℕ, _+_, _-_, _/_, _≤_}
+use Prim.Native.Nat.{_+_, _-_, _/_, _≤_}
 use native.Mathlib.Omega.{arith}
 use borrow.Author.Needs.{needs}
 use borrow.Author.Tests.{not-true, not-false}
@@ -9,13 +9,10 @@ use lib.ListN.{length, drop}
 use Rattle.lists.specs.Bytes.{Bytes, same, zeros}
 use Rattle.rules.specs.Held.{odd, freeZero}
 use Rattle.rules.specs.Numbers.{v1}
-use Rattle.held.specs.Holding.{bytesOf, rowsOf}
+use Rattle.held.specs.Holding.{rowsOf}
 use Rattle.held.proofs.Turns.{rows-long, row-of, free-turn, free-end}
 use Rattle.held.proofs.has_free_rows_zero.Statement.{statement}
 use Rattle.held.proofs.has_free_rows_zero.Tie as tie
-use Rattle.held.proofs.has_free_rows_zero.Reads as reads
-use Rattle.held.proofs.has_free_rows_zero.Lts as lts
-use Rattle.held.proofs.may_stand.Reads as may-stand-reads
 
 abbrev Inv-loop : tie.InvT-loop
 Inv-loop rows q₀ c₀ q c = (c ≤ v1 .levels) × (length (rowsOf rows) ≡ v1 .levels) × (freeZero q₀ (rowsOf rows) ≡ freeZero q (drop c (rowsOf rows)))

@@ -2,6 +2,7 @@
 use mathlib.Core.Path.{_≡_, refl, sym, ap, _∙_}
 use mathlib.Core.Bool.{Bool, true, false, cond}
 use Prim.Native.Nat.{ℕ}
+use native.Mathlib.Omega.{arith}
 use borrow.Author.Needs.{needs}
 use borrow.Author.Tests.{eq-eqb, ne-eqb, not-true, not-false}
 use denote.Ref.{now}
@@ -15,7 +16,7 @@ use Rattle.rules.specs.Messages.{total}
 use Rattle.rules.specs.Refusals.{stateBroken, noSuchNumber, wrongLength}
 use Rattle.rules.specs.Held.{Held, inOrder}
 use Rattle.rules.specs.Checking.{must, upward, advanceWalk}
-use Rattle.rules.specs.Calls.{Advanced, advanceAnswer, advanceCall}
+use Rattle.rules.specs.Calls.{advanceAnswer, advanceCall}
 use Rattle.rules.specs.Verdicts.{upward-true}
 use Rattle.rules.specs.Walking.{advance-is}
 use Rattle.held.specs.Holding.{holds}
@@ -60,22 +61,32 @@ right c =
     let a = c .before .before .before .before .before .before .args in
     c .advancement-len .ensures ∙ ap (λ (b : Bool). cond b (total v1 (pathAfter (a .held .count .0) (a .n .0))) 0) (ahead (c .before))
 
+missized : (c : tie.Then3) → let a = c .before .before .before .before .before .before .before .args in
+    eqb (length (now (a .proof))) (total v1 (pathAfter (a .held .count .0) (a .n .0))) ≡ false
+missized c =
+    let a = c .before .before .before .before .before .before .before .args in
+    ne-eqb (length (now (a .proof))) (total v1 (pathAfter (a .held .count .0) (a .n .0))) (λ e. omega (arith, c .if3 .taken, right (c .before)))
+
+sized : (c : tie.Else3) → let a = c .before .before .before .before .before .before .before .args in
+    length (now (a .proof)) ≡ total v1 (pathAfter (a .held .count .0) (a .n .0))
+sized c = omega (arith, c .if3 .left, right (c .before))
+
 returns-3 : tie.Need-returns-3
 returns-3 c =
     let a = c .before .before .before .before .before .before .before .args in
-    sym (by-tests (holds (a .held)) (a .n .0) (a .digest .bytes) (now (a .proof)) (in-order (c .before .before .before .before)) (ahead (c .before .before)) (ne-eqb _ _ (λ e. c .if3 .taken (e ∙ sym (right (c .before))))))
+    sym (by-tests (holds (a .held)) (a .n .0) (a .digest .bytes) (now (a .proof)) (in-order (c .before .before .before .before)) (ahead (c .before .before)) (missized c))
 
 follow-requires : tie.Need-follow-requires
 follow-requires c κs =
     let a = c .before .before .before .before .before .before .before .args in
     let u = upward-true v1 (a .held .count .0) (a .n .0) (ahead (c .before .before)) in
-    (u .0, u .1, c .if3 .left ∙ right (c .before))
+    (u .0, u .1, sized c)
 
 returns-4 : tie.Need-returns-4
 returns-4 c =
     let a = c .before .before .before .before .before .before .before .before .args in
     c .follow .ensures
-    ∙ sym (by-tests (holds (a .held)) (a .n .0) (a .digest .bytes) (now (a .proof)) (in-order (c .before .before .before .before .before)) (ahead (c .before .before .before)) (eq-eqb _ _ (c .before .if3 .left ∙ right (c .before .before))))
+    ∙ sym (by-tests (holds (a .held)) (a .n .0) (a .digest .bytes) (now (a .proof)) (in-order (c .before .before .before .before .before)) (ahead (c .before .before .before)) (eq-eqb _ _ (sized (c .before))))
 
 pub check-advancement-spec : {M : Type 1} → statement M
 check-advancement-spec =

@@ -2,22 +2,21 @@
 use mathlib.Core.Path.{_≡_, refl, sym, ap, ap₂, _∙_}
 use mathlib.Core.Bool.{Bool, true, false}
 use mathlib.Core.List.{List}
-use Prim.Native.Nat.{ℕ, suc, _+_, _/_, _^_}
+use Prim.Native.Nat.{ℕ, _+_, _^_}
 use native.Mathlib.Omega.{arith}
 use native.Mathlib.Numerals.{add-one}
 use borrow.Author.Tests.{not-true, not-false}
 use denote.Ref.{now}
-use lib.ListN.{length, drop}
 use Rattle.lists.specs.Bytes.{Bytes, same}
 use Rattle.rules.specs.Numbers.{v1}
 use Rattle.hash.specs.Hash.{hashOf}
 use Rattle.rules.specs.Messages.{elementMsg, row}
 use Rattle.rules.specs.Checking.{rowsAfter}
-use Rattle.rules.specs.Hops.{hop-tz, tz-few}
-use Rattle.held.specs.Holding.{rowsOf, holds}
-use Rattle.held.specs.Rows.{rowsSay}
+use Rattle.rules.specs.Hops.{hop-tz}
+use Rattle.held.specs.Holding.{holds}
 use Rattle.held.specs.declared.Rows.the-variants.{Agree}
 use Rattle.checker.specs.declared.advancement.Hop.the-variants.{Good, Row, Link}
+use Rattle.checker.specs.Parts.{size-short}
 use Rattle.checker.specs.Advancing.{Step, hopOf, hopBy, hop-is}
 use borrow.Author.Needs.{needs}
 use Rattle.checker.proofs.advancement.take_hop.Statement.{statement}
@@ -72,7 +71,7 @@ carry-requires c κs = search needs
 element-digest-requires : tie.Need-element-digest-requires
 element-digest-requires c κs =
     let s = c .before .before .before .before .before .before .before .before .before in
-    omega (arith, s .pre .long, tz-few 64 (s .args .h .count .0 + 2 ^ s .args .by .level))
+    omega (arith, s .pre .long, size-short (s .args .h .count .0 + 2 ^ s .args .by .level))
 
 returns-3 : tie.Need-returns-3
 returns-3 c =

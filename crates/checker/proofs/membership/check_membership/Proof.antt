@@ -54,10 +54,10 @@ compared c =
     ∙ ap (λ (x : Bytes). same x (hashOf (entryMsg (now (a .entry))))) (row-at v1 (now (a .proof)) 0 (a .i .0) 0 (omega arith))
 
 -- the walk begins behind the first component
-starts : (i n : ℕ) (p D x t : Bytes) → x ≡ part v1 p 0 i → t ≡ hashOf (elementMsg i x) → length x ≡ size v1 i
-    → walk hashOf v1 i t (hops i n) p (length x) D 0 ≡ walk hashOf v1 i (digestAt hashOf v1 p 0 i) (hops i n) p (size v1 i) D 0
-starts i n p D x t ex et el =
-    ap₂ (λ (u : Bytes) (o : ℕ). walk hashOf v1 i u (hops i n) p o D 0) (et ∙ ap (λ (y : Bytes). hashOf (elementMsg i y)) ex) el
+starts : (i n : ℕ) (p D x t : Bytes) {o : Judged ℕ} → x ≡ part v1 p 0 i → t ≡ hashOf (elementMsg i x) → length x ≡ size v1 i
+    → o ≡ walk hashOf v1 i t (hops i n) p (length x) D 0 → o ≡ walk hashOf v1 i (digestAt hashOf v1 p 0 i) (hops i n) p (size v1 i) D 0
+starts i n p D x t ex et el eo =
+    eo ∙ ap₂ (λ (u : Bytes) (k : ℕ). walk hashOf v1 i u (hops i n) p k D 0) (et ∙ ap (λ (y : Bytes). hashOf (elementMsg i y)) ex) el
 
 -- the definition at this call's arguments, by its tests
 here : (c : tie.Start) {b3 b4 b7 b8 : Bool} {o : Judged ℕ} →
@@ -122,7 +122,7 @@ returns-5 c =
     let past = first .before in
     here (past .before .before .before .before .before .before .before) (short (past .before .before .before .before)) (asked (past .before .before))
     (eq-eqb _ _ (sized past)) (sym (compared (c .before .before .before)) ∙ not-false _ (c .before .before .if4 .left))
-    (c .follow .ensures ∙ starts _ _ _ _ _ _ (first .component-at .ensures) (c .before .element-digest .ensures) (whole first))
+    (starts _ _ _ _ _ _ (first .component-at .ensures) (c .before .element-digest .ensures) (whole first) (c .follow .ensures))
 
 pub check-membership-spec : {M : Type 1} → statement M
 check-membership-spec =

@@ -51,8 +51,21 @@ next-round-requires-8 c κs = search needs
 
 returns : tie.Need-returns
 returns c =
-    let t = c .before .before .before .before .before .before .before .before .args .t in
-    rounded-then t 7 1 (rounded-then t 6 1 (rounded-then t 5 1 (rounded-then t 4 1 (rounded-then t 3 1 (rounded-then t 2 1 (rounded-then t 1 1 (c .before .before .before .before .before .before .before .next-round .ensures) (c .before .before .before .before .before .before .next-round2 .ensures)) (c .before .before .before .before .before .next-round3 .ensures)) (c .before .before .before .before .next-round4 .ensures)) (c .before .before .before .next-round5 .ensures)) (c .before .before .next-round6 .ensures)) (c .before .next-round7 .ensures)) (c .next-round8 .ensures)
+    let c7 = c .before in
+    let c6 = c7 .before in
+    let c5 = c6 .before in
+    let c4 = c5 .before in
+    let c3 = c4 .before in
+    let c2 = c3 .before in
+    let c1 = c2 .before in
+    let t = c1 .before .args .t in
+    let e2 = rounded-then t 1 1 (c1 .next-round .ensures) (c2 .next-round2 .ensures) in
+    let e3 = rounded-then t 2 1 e2 (c3 .next-round3 .ensures) in
+    let e4 = rounded-then t 3 1 e3 (c4 .next-round4 .ensures) in
+    let e5 = rounded-then t 4 1 e4 (c5 .next-round5 .ensures) in
+    let e6 = rounded-then t 5 1 e5 (c6 .next-round6 .ensures) in
+    let e7 = rounded-then t 6 1 e6 (c7 .next-round7 .ensures) in
+    rounded-then t 7 1 e7 (c .next-round8 .ensures)
 
 pub eight-rounds-spec : {M : Type 1} → statement M
 eight-rounds-spec =

@@ -51,8 +51,21 @@ next-word-requires-8 c κs = search needs
 
 returns : tie.Need-returns
 returns c =
-    let t = c .before .before .before .before .before .before .before .before .before .before .before .before .before .before .before .before .args .t in
-    scheduled-then t 7 1 (scheduled-then t 6 1 (scheduled-then t 5 1 (scheduled-then t 4 1 (scheduled-then t 3 1 (scheduled-then t 2 1 (scheduled-then t 1 1 (c .before .before .before .before .before .before .before .before .before .before .before .before .before .before .next-word .ensures) (c .before .before .before .before .before .before .before .before .before .before .before .before .next-word2 .ensures)) (c .before .before .before .before .before .before .before .before .before .before .next-word3 .ensures)) (c .before .before .before .before .before .before .before .before .next-word4 .ensures)) (c .before .before .before .before .before .before .next-word5 .ensures)) (c .before .before .before .before .next-word6 .ensures)) (c .before .before .next-word7 .ensures)) (c .next-word8 .ensures)
+    let c7 = c .before .before in
+    let c6 = c7 .before .before in
+    let c5 = c6 .before .before in
+    let c4 = c5 .before .before in
+    let c3 = c4 .before .before in
+    let c2 = c3 .before .before in
+    let c1 = c2 .before .before in
+    let t = c1 .before .before .args .t in
+    let e2 = scheduled-then t 1 1 (c1 .next-word .ensures) (c2 .next-word2 .ensures) in
+    let e3 = scheduled-then t 2 1 e2 (c3 .next-word3 .ensures) in
+    let e4 = scheduled-then t 3 1 e3 (c4 .next-word4 .ensures) in
+    let e5 = scheduled-then t 4 1 e4 (c5 .next-word5 .ensures) in
+    let e6 = scheduled-then t 5 1 e5 (c6 .next-word6 .ensures) in
+    let e7 = scheduled-then t 6 1 e6 (c7 .next-word7 .ensures) in
+    scheduled-then t 7 1 e7 (c .next-word8 .ensures)
 
 pub eight-words-spec : {M : Type 1} → statement M
 eight-words-spec =
