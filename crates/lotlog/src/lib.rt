@@ -1,18 +1,11 @@
-// The C interface: every public call as an export that the host programs link.
-ghost use mathlib.Core.Path.{_≡_};
-ghost use Rattle.lotlog.specs.Exports.{left, hashLeft};
-
-// SHA-256 of a message of up to 65,536 bytes, into `digest`.
-#[no_mangle]
-pub extern "C" fn lot_hash(message: &[u8], digest: &mut [u8; 32]) -> u64
-    ensures { λ r. ⌜ left r (now (digest .exit)) ≡ hashLeft (now (message .entry)) (now (digest .entry)) ⌝ }
-{
-    let h = sha256::hash(message);
-    let number = h.number;
-    if number != 0 {
-        return number;
-    }
-    let d = h.digest;
-    *digest = d;
-    0
-}
+// The C interface: every public call as an export that the host programs link. An export hands on what it is given, and what the call answers. It
+// returns 01's number; the numbers of the answer go to `answer`, which is always written whole; a refusal leaves lent memory as it was.
+mod building; // building proofs
+mod checking; // checking proofs
+mod disputing; // the dispute
+mod hashing; // SHA-256
+mod holding; // held states
+mod lent; // lent memory
+mod said; // an answer of one number
+mod storing; // the store
+mod wire; // held states as bytes

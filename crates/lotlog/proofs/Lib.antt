@@ -1,0 +1,1 @@
+pub mod Wiring  -- rows read from bytes and written to them, one after the other

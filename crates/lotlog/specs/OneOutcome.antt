@@ -1,0 +1,155 @@
+-- ONE OUTCOME, CALL BY CALL: any two outcomes that the statement of a public call allows coincide. This file lists every public call of the library,
+-- and every export. A contract says that the answer, and what lent memory holds after the call, told in document 01's terms, are one function of what
+-- the call was given; `One told o` says that this leaves one answer. Each line cites the one law of rules, or the crate's own citation of it.
+use mathlib.Core.Path.{_≡_, sym, ap, ap₂, _∙_}
+use mathlib.Core.List.{[]}
+use Prim.Native.Nat.{ℕ}
+use Rattle.lists.specs.Bytes.{Bytes}
+use Rattle.sha256.specs.Stream.{begun, taken, finished, hashed}
+use Rattle.sha256.specs.declared.HashState.{HashState}
+use Rattle.hash.specs.Hash.{hashOf}
+use Rattle.hash.specs.declared.Digest.{Digest}
+use Rattle.path.specs.declared.Length.{Length}
+use Rattle.rules.specs.Numbers.{v1}
+use Rattle.rules.specs.Held.{heldStart}
+use Rattle.rules.specs.Checking.{member}
+use Rattle.rules.specs.Dispute.{differing}
+use Rattle.rules.specs.Calls.{written, startCall, countCall, appendCall, digestCall, heldCall, buildMembershipCall, buildAdvancementCall, auditCall, advanceCall, Disputed, disputeCall}
+use Rattle.rules.specs.OneOutcome.{One, OneOf, one-of}
+use Rattle.store.specs.declared.Started.{Started}
+use Rattle.store.specs.declared.Appended.{Appended}
+use Rattle.store.specs.Told.{startTold, countTold, appendTold, readTold}
+use Rattle.store.specs.Promises as store
+use Rattle.audit.specs.Told.{auditTold}
+use Rattle.audit.specs.Promises as audit
+use Rattle.held.specs.declared.Held.{Held}
+use Rattle.held.specs.Holding.{holds, held-one}
+use Rattle.build.specs.declared.Built.{Built}
+use Rattle.build.specs.Told.{builtTold, heldTold}
+use Rattle.build.specs.Promises as build
+use Rattle.checker.specs.Verdicts.{verdictOf, one-verdict}
+use Rattle.checker.specs.Advancing.{outcomeOf}
+use Rattle.checker.specs.Advances as checker
+use Rattle.dispute.specs.declared.settle.Answer.{Answer}
+use Rattle.dispute.specs.Answers.{outcome, one-answer}
+use Rattle.dispute.specs.Places.{cut}
+use Rattle.lotlog.specs.Exports.{telling, one-told, leaving, one-left, writing, one-wrote, showing, one-showed}
+use Rattle.lotlog.specs.Outcomes.{lotHash, lotStart, lotCount, lotAppend, lotDigestAt, lotAudit, lotHeldStart, lotHeldAt, lotBuildMembership, lotBuildAdvancement, lotCheckMembership, lotCheckAdvancement, lotDispute, lotDiffering}
+
+-- where a crate says that telling loses nothing, answers that are told as one outcome are one
+lossless : {A B : Type 0} (told : A → B) → ((x y : A) → told x ≡ told y → x ≡ y) → (o : B) → One told o
+lossless told same o x y ex ey = same x y (ex ∙ sym ey)
+
+-- ---- sha256
+
+pub sha256-hash : (m : Bytes) → OneOf (hashed m)
+sha256-hash m = one-of (hashed m)
+
+pub hash-state-begin : OneOf begun
+hash-state-begin = one-of begun
+
+pub hash-state-take : (s : HashState) (b : Bytes) → OneOf (taken s b)
+hash-state-take s b = one-of (taken s b)
+
+pub hash-state-finish : (s : HashState) → OneOf (finished s)
+hash-state-finish s = one-of (finished s)
+
+-- ---- store
+
+pub store-start : (s : Bytes) (log : ℕ) → One (λ (x : Started × Bytes). written (startTold (x .0)) (x .1)) (startCall v1 s log)
+store-start = store.start-one
+
+pub store-count : (s : Bytes) → One countTold (countCall v1 s)
+store-count = store.count-one
+
+pub store-append : (s e : Bytes) (stop : ℕ) → One (λ (x : Appended × Bytes). written (appendTold (x .0)) (x .1)) (appendCall hashOf v1 [] s e stop)
+store-append = store.append-one
+
+pub store-digest-at : (s : Bytes) (at : ℕ) → One readTold (digestCall hashOf v1 s at)
+store-digest-at = store.digest-one
+
+-- ---- audit
+
+pub audit-audit : (s : Bytes) → One auditTold (auditCall hashOf v1 s)
+audit-audit = audit.audit-one
+
+-- ---- held
+
+pub held-start : (log : ℕ) → One holds (heldStart hashOf v1 log)
+held-start log = held-one (heldStart hashOf v1 log)
+
+-- ---- build
+
+pub build-held-at : (s : Bytes) (at : ℕ) → One heldTold (heldCall hashOf v1 s at)
+build-held-at = build.held-one
+
+pub build-membership : (s : Bytes) (i n : ℕ) (out : Bytes) → One (λ (x : Built × Bytes). written (builtTold (x .0)) (x .1)) (buildMembershipCall hashOf v1 s i n out)
+build-membership = build.membership-one
+
+pub build-advancement : (s : Bytes) (i n : ℕ) (out : Bytes) → One (λ (x : Built × Bytes). written (builtTold (x .0)) (x .1)) (buildAdvancementCall hashOf v1 s i n out)
+build-advancement = build.advancement-one
+
+-- ---- checker
+
+pub checker-check-membership : (e : Bytes) (i n : ℕ) (D p : Bytes) → One verdictOf (member hashOf v1 e i n D p)
+checker-check-membership e i n D p = lossless verdictOf one-verdict (member hashOf v1 e i n D p)
+
+pub checker-check-advancement : (h : Held) (n : Length) (D : Digest) (p : Bytes) → One outcomeOf (advanceCall hashOf v1 (holds h) (n .0) (D .bytes) p)
+checker-check-advancement = checker.advanced-one
+
+-- ---- dispute
+
+pub dispute-dispute : (e1 p1 e2 p2 : Bytes) (i n : ℕ) (D b1 b2 : Bytes)
+    → One (λ (x : Answer × Bytes × Bytes). outcome (x .0) (x .1) (x .2)) (disputeCall hashOf v1 e1 p1 e2 p2 i n D b1 b2)
+dispute-dispute e1 p1 e2 p2 i n D b1 b2 =
+    lossless (λ (x : Answer × Bytes × Bytes). outcome (x .0) (x .1) (x .2))
+    (λ x y e. ap₂ {C = Answer × Bytes × Bytes} (λ (a : Answer) (b : Bytes × Bytes). (a, b .0, b .1))
+    (one-answer (x .0) (y .0) (ap (λ (o : Disputed). o .finding) e)) (ap (λ (o : Disputed). (o .first, o .second)) e))
+    (disputeCall hashOf v1 e1 p1 e2 p2 i n D b1 b2)
+
+pub dispute-differing : (p q : Bytes) (i n : ℕ) → OneOf (cut (differing v1 i n p q) q)
+dispute-differing p q i n = one-of (cut (differing v1 i n p q) q)
+
+-- ---- the exports: the number returned, the numbers of `answer`, and lent memory
+
+pub lot-hash : (m d : Bytes) → One leaving (lotHash m d)
+lot-hash m d = one-left (lotHash m d)
+
+pub lot-start : (s : Bytes) (log : ℕ) → One leaving (lotStart s log)
+lot-start s log = one-left (lotStart s log)
+
+pub lot-count : (s : Bytes) → One telling (lotCount s)
+lot-count s = one-told (lotCount s)
+
+pub lot-append : (s e : Bytes) (stop : ℕ) → One writing (lotAppend s e stop)
+lot-append s e stop = one-wrote (lotAppend s e stop)
+
+pub lot-digest-at : (s : Bytes) (at : ℕ) (d : Bytes) → One leaving (lotDigestAt s at d)
+lot-digest-at s at d = one-left (lotDigestAt s at d)
+
+pub lot-held-at : (s : Bytes) (at : ℕ) (b : Bytes) → One leaving (lotHeldAt s at b)
+lot-held-at s at b = one-left (lotHeldAt s at b)
+
+pub lot-held-start : (log : ℕ) → One leaving (lotHeldStart log)
+lot-held-start log = one-left (lotHeldStart log)
+
+pub lot-build-membership : (s : Bytes) (i n : ℕ) (out : Bytes) → One writing (lotBuildMembership s i n out)
+lot-build-membership s i n out = one-wrote (lotBuildMembership s i n out)
+
+pub lot-build-advancement : (s : Bytes) (i n : ℕ) (out : Bytes) → One writing (lotBuildAdvancement s i n out)
+lot-build-advancement s i n out = one-wrote (lotBuildAdvancement s i n out)
+
+pub lot-check-membership : (e : Bytes) (i n : ℕ) (D p : Bytes) → One telling (lotCheckMembership e i n D p)
+lot-check-membership e i n D p = one-told (lotCheckMembership e i n D p)
+
+pub lot-check-advancement : (b : Bytes) (n : ℕ) (D p : Bytes) → One writing (lotCheckAdvancement b n D p)
+lot-check-advancement b n D p = one-wrote (lotCheckAdvancement b n D p)
+
+pub lot-audit : (s : Bytes) → One telling (lotAudit s)
+lot-audit s = one-told (lotAudit s)
+
+pub lot-dispute : (e1 p1 e2 p2 : Bytes) (i n : ℕ) (D b1 b2 : Bytes) → One showing (lotDispute e1 p1 e2 p2 i n D b1 b2)
+lot-dispute e1 p1 e2 p2 i n D b1 b2 = one-showed (lotDispute e1 p1 e2 p2 i n D b1 b2)
+
+pub lot-differing : (p q : Bytes) (i n : ℕ) → One telling (lotDiffering p q i n)
+lot-differing p q i n = one-told (lotDiffering p q i n)
