@@ -13,7 +13,7 @@ use Rattle.rules.specs.Held.{Held}
 use Rattle.held.specs.Holding.{bytesOf, rowsOf}
 use Rattle.held.proofs.Turns.{noDigest, row-of, rows-set}
 use Rattle.store.specs.Pasting.{paste-exact, paste-more}
-use Rattle.lotlog.specs.Wire.{flat, rowsIn, wireOf, flat-more, rows-more}
+use Rattle.lotlog.specs.Wire.{rowsPlace, rowsBytes, heldBytes, flat, rowsIn, wireOf, flat-more, rows-more}
 
 -- row l, which stands at index at + 32 l, is stored behind those before it
 pub read-turn : (rows : List Digest) (b : Bytes) (at l : ℕ) (d : Digest) → l < length (rowsOf rows) → take l (rowsOf rows) ≡ rowsIn l (drop at b)
@@ -51,13 +51,13 @@ module _ (rows : List Digest) (l : ℕ) (h : l < length (rowsOf rows)) (r : Byte
 
 -- ---- the whole state
 
-four-parts : (out L C D R : Bytes) → length out ≡ 688 → length L ≡ 8 → length C ≡ 8 → length D ≡ 32 → length R ≡ 640
-    → paste (paste (paste (paste out 0 L 8) 8 C 8) 16 D 32) 48 R 640 ≡ L ++ C ++ D ++ R
+four-parts : (out L C D R : Bytes) → length out ≡ heldBytes → length L ≡ 8 → length C ≡ 8 → length D ≡ 32 → length R ≡ rowsBytes
+    → paste (paste (paste (paste out 0 L 8) 8 C 8) 16 D 32) rowsPlace R rowsBytes ≡ L ++ C ++ D ++ R
 four-parts out L C D R room l c d r =
-    ap (λ (x : Bytes). paste (paste x 16 D 32) 48 R 640) (paste-more out L C 0 8 8 l c zero-le)
-    ∙ ap (λ (x : Bytes). paste x 48 R 640) (paste-more out (L ++ C) D 0 16 32 two d zero-le)
-    ∙ paste-more out (L ++ C ++ D) R 0 48 640 three r zero-le
-    ∙ paste-exact out (L ++ C ++ D ++ R) 688 room (length-append (L ++ C ++ D) R ∙ omega (arith, three))
+    ap (λ (x : Bytes). paste (paste x 16 D 32) rowsPlace R rowsBytes) (paste-more out L C 0 8 8 l c zero-le)
+    ∙ ap (λ (x : Bytes). paste x rowsPlace R rowsBytes) (paste-more out (L ++ C) D 0 16 32 two d zero-le)
+    ∙ paste-more out (L ++ C ++ D) R 0 rowsPlace rowsBytes three r zero-le
+    ∙ paste-exact out (L ++ C ++ D ++ R) heldBytes room (length-append (L ++ C ++ D) R ∙ omega (arith, three))
   where
     two : length (L ++ C) ≡ 16
     two = length-append L C ∙ omega arith
@@ -66,11 +66,11 @@ four-parts out L C D R room l c d r =
     three = length-append (L ++ C) D ∙ omega (arith, two)
 
 -- the four writes of a state, each over what the one before left
-pub written : (h : Held) (out o1 o2 o3 o4 L C : Bytes) → length out ≡ 688 → L ≡ be 8 (h .log) → C ≡ be 8 (h .count) → length (h .digest) ≡ 32 → length (flat (h .rows)) ≡ 640
-    → o1 ≡ paste out 0 L 8 → o2 ≡ paste o1 8 C 8 → o3 ≡ paste o2 16 (h .digest) 32 → o4 ≡ paste o3 48 (flat (h .rows)) 640 → o4 ≡ wireOf h
+pub written : (h : Held) (out o1 o2 o3 o4 L C : Bytes) → length out ≡ heldBytes → L ≡ be 8 (h .log) → C ≡ be 8 (h .count) → length (h .digest) ≡ 32 → length (flat (h .rows)) ≡ rowsBytes
+    → o1 ≡ paste out 0 L 8 → o2 ≡ paste o1 8 C 8 → o3 ≡ paste o2 16 (h .digest) 32 → o4 ≡ paste o3 rowsPlace (flat (h .rows)) rowsBytes → o4 ≡ wireOf h
 unfolding wireOf
 written h out o1 o2 o3 o4 L C room el ec d r e1 e2 e3 e4 =
     e4
-    ∙ ap (λ (x : Bytes). paste x 48 (flat (h .rows)) 640)
+    ∙ ap (λ (x : Bytes). paste x rowsPlace (flat (h .rows)) rowsBytes)
     (e3 ∙ ap (λ (x : Bytes). paste x 16 (h .digest) 32) (e2 ∙ ap₂ {A = Bytes} {B = Bytes} {C = Bytes} (λ x y. paste x 8 y 8) (e1 ∙ ap (λ (x : Bytes). paste out 0 x 8) el) ec))
     ∙ four-parts out (be 8 (h .log)) (be 8 (h .count)) (h .digest) (flat (h .rows)) room (be-length 8 (h .log)) (be-length 8 (h .count)) d r

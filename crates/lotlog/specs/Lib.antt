@@ -1,5 +1,5 @@
 pub mod Exports  -- the shapes of what an export leaves
-pub mod Wire  -- the 688 bytes of a held state
+pub mod Wire  -- the bytes of a held state
 pub mod Outcomes  -- what each export leaves
 pub mod Saying  -- how telling an answer tells the outcome
 pub mod OneOutcome  -- ANY TWO OUTCOMES COINCIDE: every public call, and every export

@@ -8,9 +8,9 @@ use Rattle.rules.specs.Numbers.{v1}
 use Rattle.rules.specs.Refusals.{done}
 use Rattle.rules.specs.Held.{heldStart}
 use Rattle.rules.specs.Dispute.{differing}
-use Rattle.rules.specs.Calls.{startCall, countCall, appendCall, digestCall, heldCall, buildMembershipCall, buildAdvancementCall, auditCall, memberCall, advanceCall, disputeCall}
-use Rattle.lotlog.specs.Exports.{Told, told, answered, Left, left, leaves, Wrote, spoken, Showed, shows}
-use Rattle.lotlog.specs.Wire.{wireOf, heldIn, advances}
+use Rattle.rules.specs.Calls.{startCall, countCall, appendCall, digestCall, heldCall, buildMembershipCall, buildAdvancementCall, auditCall, memberCall, Advanced, advanceCall, disputeCall}
+use Rattle.lotlog.specs.Exports.{Told, told, answered, Left, left, unlessRefused, leaves, Wrote, spoken, Showed, shows}
+use Rattle.lotlog.specs.Wire.{wireOf, heldIn}
 
 -- ---- hashing
 
@@ -54,6 +54,10 @@ lotBuildAdvancement s i n out = spoken (buildAdvancementCall hashOf v1 s i n out
 
 unfoldable pub lotCheckMembership : Bytes → ℕ → ℕ → Bytes → Bytes → Told
 lotCheckMembership e i n D p = answered (memberCall hashOf v1 e i n D p)
+
+-- an outcome of the rules: its one number answered, and the bytes of the state held after it, unless it is a refusal
+abbrev pub advances : Advanced → Bytes → Wrote
+advances o b = record { told = answered (o .answer); bytes = unlessRefused (o .answer .number) (wireOf (o .held)) b }
 
 unfoldable pub lotCheckAdvancement : Bytes → ℕ → Bytes → Bytes → Wrote
 lotCheckAdvancement b n D p = advances (advanceCall hashOf v1 (heldIn b) n D p) b

@@ -5,8 +5,9 @@ use Rattle.lists.specs.Bytes.{Bytes}
 use Rattle.rules.specs.Held.{Held}
 use Rattle.rules.specs.Calls.{Answer, Written, written, Advanced, Finding, Disputed, disputed}
 use Rattle.lotlog.specs.Exports.{Told, answered, Left, left, unlessRefused, leaves, Wrote, spoken, Showed, finding, shows}
-use Rattle.lotlog.specs.Wire.{wireOf, advances}
-use Rattle.lotlog.specs.declared.said.Said.{Said}
+use Rattle.lotlog.specs.Wire.{wireOf}
+use Rattle.lotlog.specs.Outcomes.{advances}
+use Rattle.lotlog.specs.declared.answering.Said.{Said}
 
 abbrev pub answerOf : Said → Answer
 answerOf s = record { number = s .number; value = s .value }

@@ -1,4 +1,4 @@
--- The 688 bytes of a held state: log number and count (8 bytes each, big-endian), digest, rows. And that nothing is lost on the way there and back.
+-- The bytes of a held state: log number and count (8 bytes each, big-endian), digest, rows. And that nothing is lost on the way there and back.
 use mathlib.Core.Path.{_≡_, refl, sym, ap, ap₂, _∙_}
 use mathlib.Core.List.{List, [], _∷_, _++_, append-assoc, append-nil}
 use Prim.Native.Nat.{ℕ, zero, suc, _+_, _*_, _^_, _<_}
@@ -10,8 +10,16 @@ use Rattle.lists.specs.Laws.{length-part}
 use Rattle.lists.specs.Numbers.{number-be, be-number, part-bytes}
 use Rattle.rules.specs.Numbers.{v1}
 use Rattle.rules.specs.Held.{Held}
-use Rattle.rules.specs.Calls.{Advanced}
-use Rattle.lotlog.specs.Exports.{answered, unlessRefused, Wrote}
+
+-- where the rows begin, their bytes, and all
+abbrev pub rowsPlace : ℕ
+rowsPlace = 48
+
+abbrev pub rowsBytes : ℕ
+rowsBytes = 32 * v1 .levels
+
+abbrev pub heldBytes : ℕ
+heldBytes = rowsPlace + rowsBytes
 
 -- the bytes of rows, one after the other
 unfoldable pub flat : List Bytes → Bytes
@@ -27,11 +35,7 @@ unfoldable pub wireOf : Held → Bytes
 wireOf h = be 8 (h .log) ++ be 8 (h .count) ++ h .digest ++ flat (h .rows)
 
 unfoldable pub heldIn : Bytes → Held
-heldIn b = record { log = number (take 8 b); count = number (take 8 (drop 8 b)); digest = take 32 (drop 16 b); rows = rowsIn (v1 .levels) (drop 48 b) }
-
--- an outcome of the rules: its one number answered, and the bytes of the state held after it, unless it is a refusal
-abbrev pub advances : Advanced → Bytes → Wrote
-advances o b = record { told = answered (o .answer); bytes = unlessRefused (o .answer .number) (wireOf (o .held)) b }
+heldIn b = record { log = number (take 8 b); count = number (take 8 (drop 8 b)); digest = take 32 (drop 16 b); rows = rowsIn (v1 .levels) (drop rowsPlace b) }
 
 -- ---- rows, one more at the end
 
@@ -56,16 +60,16 @@ flat-rows zero [] e = refl
 flat-rows zero (x ∷ b) e = absurd (omega arith)
 flat-rows (suc k) b e = ap (λ (x : Bytes). take 32 b ++ x) (flat-rows k (drop 32 b) (length-drop 32 b ∙ omega arith)) ∙ take-append-drop 32 b
 
--- THE BYTES OF WHAT STANDS IN 688 BYTES ARE THESE BYTES
-pub wire-in : (b : Bytes) → length b ≡ 688 → AreBytes b → wireOf (heldIn b) ≡ b
+-- THE BYTES OF THE STATE THAT STANDS IN BYTES ARE THESE BYTES
+pub wire-in : (b : Bytes) → length b ≡ heldBytes → AreBytes b → wireOf (heldIn b) ≡ b
 unfolding wireOf heldIn
 wire-in b n a =
-    ap₂ {A = Bytes} {B = Bytes} {C = Bytes} (λ x y. x ++ y ++ take 32 (drop 16 b) ++ flat (rowsIn (v1 .levels) (drop 48 b)))
+    ap₂ {A = Bytes} {B = Bytes} {C = Bytes} (λ x y. x ++ y ++ take 32 (drop 16 b) ++ flat (rowsIn (v1 .levels) (drop rowsPlace b)))
     (be-number 8 (take 8 b) (length-part 8 0 b (omega arith)) (part-bytes b 0 8 a)) (be-number 8 (take 8 (drop 8 b)) (length-part 8 8 b (omega arith)) (part-bytes b 8 8 a))
-    ∙ ap (λ (x : Bytes). take 8 b ++ take 8 (drop 8 b) ++ take 32 (drop 16 b) ++ x) (flat-rows (v1 .levels) (drop 48 b) (length-drop 48 b ∙ omega arith))
-    ∙ ap (λ (x : Bytes). x ++ take 32 (drop 16 b) ++ drop 48 b) (sym (take-add 8 8 b))
-    ∙ ap (λ (x : Bytes). x ++ drop 48 b) (sym (take-add 16 32 b))
-    ∙ take-append-drop 48 b
+    ∙ ap (λ (x : Bytes). take 8 b ++ take 8 (drop 8 b) ++ take 32 (drop 16 b) ++ x) (flat-rows (v1 .levels) (drop rowsPlace b) (length-drop rowsPlace b ∙ omega arith))
+    ∙ ap (λ (x : Bytes). x ++ take 32 (drop 16 b) ++ drop rowsPlace b) (sym (take-add 8 8 b))
+    ∙ ap (λ (x : Bytes). x ++ drop rowsPlace b) (sym (take-add 16 32 b))
+    ∙ take-append-drop rowsPlace b
 
 -- ---- from states to states
 

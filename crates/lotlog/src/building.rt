@@ -4,13 +4,14 @@ ghost use Rattle.build.specs.Told.{builtTold};
 ghost use Rattle.lotlog.specs.Exports.{wrote};
 ghost use Rattle.lotlog.specs.Saying.{Says};
 ghost use Rattle.lotlog.specs.Outcomes.{lotBuildMembership, lotBuildAdvancement};
-use super::said::Said;
-use super::said::say;
-use super::said::tell;
+use super::answering::Said;
+use super::answering::say;
+use super::answering::tell;
 use build::Built;
 use path::Length;
 use path::Position;
 
+// The number and the proof's length.
 fn built_said(b: Built) -> Said
     ensures { λ r. ⌜ Says r (builtTold b) ⌝ }
 {

@@ -6,9 +6,10 @@ ghost use Rattle.checker.specs.Advancing.{answerOf};
 ghost use Rattle.lotlog.specs.Exports.{told, wrote};
 ghost use Rattle.lotlog.specs.Saying.{Says};
 ghost use Rattle.lotlog.specs.Outcomes.{lotCheckMembership, lotCheckAdvancement};
-use super::said::Said;
-use super::said::say;
-use super::said::tell;
+use super::answering::Said;
+use super::answering::say;
+use super::answering::tell;
+use super::wire::HELD_BYTES;
 use super::wire::leave_held;
 use super::wire::read_held;
 use checker::Advance;
@@ -17,6 +18,7 @@ use hash::Digest;
 use path::Length;
 use path::Position;
 
+// The number and the hops found good.
 fn member_said(v: Verdict) -> Said
     ensures { λ r. ⌜ Says r (memberAnswer (verdictOf v)) ⌝ }
 {
@@ -48,6 +50,7 @@ pub extern "C" fn lot_check_membership(
     tell(member_said(v), answer)
 }
 
+// The number and the hops found good.
 fn advance_said(v: Advance) -> Said
     ensures { λ r. ⌜ Says r (answerOf v) ⌝ }
 {
@@ -66,7 +69,7 @@ fn advance_said(v: Advance) -> Said
 // hops found good.
 #[no_mangle]
 pub extern "C" fn lot_check_advancement(
-    held: &mut [u8; 688],
+    held: &mut [u8; HELD_BYTES],
     n: u64,
     digest: &[u8; 32],
     proof: &[u8],

@@ -8,7 +8,7 @@ use hash::Digest;
 use path::Length;
 use path::Position;
 
-// Writes what a dispute comes to: 1 if nothing differs, else 0 and the two lengths; with 13, the proof that is not accepted. Gives the number to return.
+// Writes what a dispute comes to; gives the number to return.
 fn tell_finding(a: Answer, answer: &mut [u64; 3]) -> u64
     ensures { λ r. ⌜ told r (now (answer .exit)) ≡ finding (findingOf a) ⌝ }
 {
@@ -32,7 +32,8 @@ fn tell_finding(a: Answer, answer: &mut [u64; 3]) -> u64
     }
 }
 
-// The dispute of two entries and two proofs for one (i, n, digest): the two messages that clash go to the start of `first_out` and `second_out`.
+// The dispute of two entries and two proofs for one (i, n, digest): the two messages that clash go to the start of `first_out` and
+// `second_out`. Answer: 1 if nothing differs, else 0 and the two lengths; with 13, the proof that is not accepted.
 #[no_mangle]
 pub extern "C" fn lot_dispute(
     first_entry: &[u8],
@@ -63,7 +64,7 @@ pub extern "C" fn lot_dispute(
     tell_finding(a, answer)
 }
 
-// The differing component nearest n of two proofs for (i, n). Answer: where it begins in both, and its length, which is 0 if there is none.
+// The differing component nearest n of two proofs for (i, n). Answer: where it begins in the second, and its length, which is 0 if there is none.
 #[no_mangle]
 pub extern "C" fn lot_differing(
     first: &[u8],

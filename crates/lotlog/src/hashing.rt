@@ -2,7 +2,7 @@
 ghost use mathlib.Core.Path.{_≡_};
 ghost use Rattle.lotlog.specs.Exports.{left};
 ghost use Rattle.lotlog.specs.Outcomes.{lotHash};
-use super::lent::leave;
+use super::answering::leave;
 
 // SHA-256 of a message of up to 65,536 bytes, into `digest`.
 #[no_mangle]

@@ -1,11 +1,11 @@
-// The C interface: every public call as an export that the host programs link. An export hands on what it is given, and what the call answers. It
-// returns 01's number; the numbers of the answer go to `answer`, which is always written whole; a refusal leaves lent memory as it was.
+// The C interface: every public call but hashing in pieces, as an export that the host programs link. An export hands on what it is given, and what
+// the call answers. It returns 01's number; the numbers of the answer go to `answer`, which is always written whole; a refusal leaves lent memory as it
+// was.
+mod answering; // what an export gives back
 mod building; // building proofs
 mod checking; // checking proofs
 mod disputing; // the dispute
 mod hashing; // SHA-256
 mod holding; // held states
-mod lent; // lent memory
-mod said; // an answer of one number
 mod storing; // the store
 mod wire; // held states as bytes

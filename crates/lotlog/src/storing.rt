@@ -5,10 +5,10 @@ ghost use Rattle.audit.specs.Told.{auditTold};
 ghost use Rattle.lotlog.specs.Exports.{told, left, wrote};
 ghost use Rattle.lotlog.specs.Saying.{Says};
 ghost use Rattle.lotlog.specs.Outcomes.{lotStart, lotCount, lotAppend, lotDigestAt, lotAudit};
-use super::lent::leave;
-use super::said::Said;
-use super::said::say;
-use super::said::tell;
+use super::answering::Said;
+use super::answering::leave;
+use super::answering::say;
+use super::answering::tell;
 use audit::Audited;
 use path::Length;
 use store::Appended;
@@ -16,6 +16,7 @@ use store::Counted;
 use store::Found;
 use store::Started;
 
+// The number of what starting a store comes to.
 fn start_number(s: Started) -> u64
     ensures { λ r. ⌜ r ≡ read.startTold s .number ⌝ }
 {
@@ -33,6 +34,7 @@ pub extern "C" fn lot_start(store: &mut [u8], log: u64) -> u64
     start_number(store::start(store, log))
 }
 
+// The number and the count.
 fn count_said(c: Counted) -> Said
     ensures { λ r. ⌜ Says r (read.countTold c) ⌝ }
 {
@@ -50,6 +52,7 @@ pub extern "C" fn lot_count(store: &[u8], answer: &mut [u64; 3]) -> u64
     tell(count_said(store::count(store)), answer)
 }
 
+// The number and the count now held.
 fn append_said(a: Appended) -> Said
     ensures { λ r. ⌜ Says r (read.appendTold a) ⌝ }
 {
@@ -75,6 +78,7 @@ pub extern "C" fn lot_append(
     tell(append_said(a), answer)
 }
 
+// The number of what reading from a store finds.
 pub fn found_number(f: Found) -> u64
     ensures { λ r. ⌜ r ≡ read.foundTold f ⌝ }
 {
@@ -96,6 +100,7 @@ pub extern "C" fn lot_digest_at(store: &[u8], at: u64, digest: &mut [u8; 32]) ->
     leave(found_number(found), t, digest)
 }
 
+// The number, and the count or the wrong element.
 fn audit_said(a: Audited) -> Said
     ensures { λ r. ⌜ Says r (auditTold a) ⌝ }
 {

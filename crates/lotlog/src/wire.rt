@@ -1,4 +1,4 @@
-// The 688 bytes of a held state: log number, count, digest, rows.
+// The bytes of a held state: log number and count (8 bytes each, big-endian), digest, rows.
 ghost use mathlib.Core.Path.{_≡_};
 ghost use Prim.Native.Nat.{_+_, _≤_};
 ghost use lib.ListN.{length, drop};
@@ -6,16 +6,18 @@ ghost use lib.Seq.{paste};
 ghost use Rattle.rules.specs.Numbers.{v1};
 ghost use Rattle.held.specs.Holding.{rowsOf, holds};
 ghost use Rattle.lotlog.specs.Exports.{left, leaves};
-ghost use Rattle.lotlog.specs.Wire.{flat, rowsIn, wireOf, heldIn};
+ghost use Rattle.lotlog.specs.Wire.{rowsPlace, rowsBytes, heldBytes, flat, rowsIn, wireOf, heldIn};
 use hash::Digest;
 use held::Held;
 use path::Length;
 
-// Where the rows begin.
+// Where the rows begin, and all bytes of a state.
 const ROWS: usize = 48;
 
-fn read_rows(bytes: &[u8; 688]) -> [Digest; held::LEVELS]
-    ensures { λ r. ⌜ rowsOf r ≡ rowsIn (v1 .levels) (drop 48 (now (bytes .entry))) ⌝ }
+pub const HELD_BYTES: usize = ROWS + 32 * held::LEVELS;
+
+fn read_rows(bytes: &[u8; HELD_BYTES]) -> [Digest; held::LEVELS]
+    ensures { λ r. ⌜ rowsOf r ≡ rowsIn (v1 .levels) (drop rowsPlace (now (bytes .entry))) ⌝ }
 {
     let zero = Digest { bytes: [0u8; 32] };
     let mut rows = [zero; held::LEVELS];
@@ -29,7 +31,7 @@ fn read_rows(bytes: &[u8; 688]) -> [Digest; held::LEVELS]
 }
 
 // The state that stands in the bytes, in order or not.
-pub fn read_held(bytes: &[u8; 688]) -> Held
+pub fn read_held(bytes: &[u8; HELD_BYTES]) -> Held
     ensures { λ r. ⌜ holds r ≡ heldIn (now (bytes .entry)) ⌝ }
 {
     let digest = lists::row_at(bytes, 16);
@@ -43,16 +45,16 @@ pub fn read_held(bytes: &[u8; 688]) -> Held
 }
 
 // Writes a digest from index `at` on.
-fn put_digest(d: Digest, out: &mut [u8; 688], at: usize)
-    requires { ⌜ at + 32 ≤ 688 ⌝ }
-    ensures { λ _. ⌜ (now (out .exit) ≡ paste (now (out .entry)) at (d .bytes) 32) × (length (d .bytes) ≡ 32) × (length (now (out .entry)) ≡ 688) ⌝ }
+fn put_digest(d: Digest, out: &mut [u8; HELD_BYTES], at: usize)
+    requires { ⌜ at + 32 ≤ heldBytes ⌝ }
+    ensures { λ _. ⌜ (now (out .exit) ≡ paste (now (out .entry)) at (d .bytes) 32) × (length (d .bytes) ≡ 32) × (length (now (out .entry)) ≡ heldBytes) ⌝ }
 {
     let bytes = d.bytes;
     lists::put(out, at, &bytes, 32);
 }
 
-fn put_rows(rows: [Digest; held::LEVELS], out: &mut [u8; 688])
-    ensures { λ _. ⌜ (now (out .exit) ≡ paste (now (out .entry)) 48 (flat (rowsOf rows)) 640) × (length (flat (rowsOf rows)) ≡ 640) ⌝ }
+fn put_rows(rows: [Digest; held::LEVELS], out: &mut [u8; HELD_BYTES])
+    ensures { λ _. ⌜ (now (out .exit) ≡ paste (now (out .entry)) rowsPlace (flat (rowsOf rows)) rowsBytes) × (length (flat (rowsOf rows)) ≡ rowsBytes) ⌝ }
 {
     let mut l: usize = 0;
     while l < held::LEVELS {
@@ -63,7 +65,7 @@ fn put_rows(rows: [Digest; held::LEVELS], out: &mut [u8; 688])
 }
 
 // Writes the bytes of a state.
-pub fn write_held(h: Held, out: &mut [u8; 688])
+pub fn write_held(h: Held, out: &mut [u8; HELD_BYTES])
     ensures { λ _. ⌜ now (out .exit) ≡ wireOf (holds h) ⌝ }
 {
     let log = lists::bytes_of(h.log);
@@ -76,7 +78,7 @@ pub fn write_held(h: Held, out: &mut [u8; 688])
 }
 
 // Writes a state unless the number is a refusal; gives the number to return.
-pub fn leave_held(number: u64, new: Held, lent: &mut [u8; 688]) -> u64
+pub fn leave_held(number: u64, new: Held, lent: &mut [u8; HELD_BYTES]) -> u64
     ensures { λ r. ⌜ left r (now (lent .exit)) ≡ leaves number (wireOf (holds new)) (now (lent .entry)) ⌝ }
 {
     if number != 0 {

@@ -11,21 +11,21 @@ use Rattle.lists.specs.Bytes.{Bytes}
 use Rattle.rules.specs.Numbers.{v1}
 use Rattle.held.specs.Holding.{bytesOf, rowsOf}
 use Rattle.held.proofs.Turns.{noDigest}
-use Rattle.lotlog.specs.Wire.{flat}
+use Rattle.lotlog.specs.Wire.{rowsPlace, flat}
 use Rattle.lotlog.proofs.Wiring.{long-turn, write-turn}
 use Rattle.lotlog.proofs.wire.put_rows.Statement.{statement}
 use Rattle.lotlog.proofs.wire.put_rows.Tie as tie
 
 abbrev Inv-loop : tie.InvT-loop
 Inv-loop out₀ rows l₀ out l =
-    (l ≤ v1 .levels) × (length (rowsOf rows) ≡ v1 .levels) × (length out ≡ length out₀) × (length (flat (take l (rowsOf rows))) ≡ 32 * l) × (out ≡ paste out₀ 48 (flat (take l (rowsOf rows))) (32 * l))
+    (l ≤ v1 .levels) × (length (rowsOf rows) ≡ v1 .levels) × (length out ≡ length out₀) × (length (flat (take l (rowsOf rows))) ≡ 32 * l) × (out ≡ paste out₀ rowsPlace (flat (take l (rowsOf rows))) (32 * l))
 
 abbrev μ-loop : tie.MeasureT-loop
 μ-loop out₀ rows l₀ out l = v1 .levels - l
 
 loop-holds : tie.Need-loop-holds Inv-loop μ-loop
 unfolding flat
-loop-holds c = (omega arith, length-map (c .args .t1) bytesOf ∙ c .good .0 .1 .0 .1, refl, refl, paste-zero (now (c .args .out)) 48 [])
+loop-holds c = (omega arith, length-map (c .args .t1) bytesOf ∙ c .good .0 .1 .0 .1, refl, refl, paste-zero (now (c .args .out)) rowsPlace [])
 
 mul-row : tie.Need-mul-row Inv-loop μ-loop
 mul-row c = search needs
@@ -57,9 +57,9 @@ loop-again c =
     let row = getD (a .t1) (l .l) noDigest in (
       omega arith,
       l .inv .1,
-      ap length (p .0) ∙ length-paste (l .out) (48 + 32 * l .l) (bytesOf row) 32 (omega arith) (omega arith) ∙ l .inv .2,
+      ap length (p .0) ∙ length-paste (l .out) (rowsPlace + 32 * l .l) (bytesOf row) 32 (omega arith) (omega arith) ∙ l .inv .2,
       long-turn (a .t1) (l .l) h (bytesOf row) refl (p .1) (l .inv .3),
-      p .0 ∙ write-turn (a .t1) (l .l) h (bytesOf row) refl (p .1) (now (a .out)) (l .out) 48 (l .inv .3) (omega arith) (l .inv .4),
+      p .0 ∙ write-turn (a .t1) (l .l) h (bytesOf row) refl (p .1) (now (a .out)) (l .out) rowsPlace (l .inv .3) (omega arith) (l .inv .4),
     )
 
 returns : tie.Need-returns Inv-loop μ-loop
@@ -68,7 +68,7 @@ returns c =
     let rs = rowsOf (c .before .before .args .t1) in
     let n : l .l ≡ v1 .levels = omega arith in
     let all : take (l .l) rs ≡ rs = take-all (l .l) rs (omega arith) in (
-      l .inv .4 ∙ ap₂ {A = List Bytes} {B = ℕ} {C = Bytes} (λ x k. paste (now (c .before .before .args .out)) 48 (flat x) (32 * k)) all n,
+      l .inv .4 ∙ ap₂ {A = List Bytes} {B = ℕ} {C = Bytes} (λ x k. paste (now (c .before .before .args .out)) rowsPlace (flat x) (32 * k)) all n,
       ap (λ (x : List Bytes). length (flat x)) (sym all) ∙ l .inv .3 ∙ ap (λ (k : ℕ). 32 * k) n,
     )
 

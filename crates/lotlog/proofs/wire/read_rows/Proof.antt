@@ -10,13 +10,13 @@ use Rattle.hash.specs.declared.Digest.{Digest}
 use Rattle.rules.specs.Numbers.{v1}
 use Rattle.held.specs.Holding.{rowsOf}
 use Rattle.held.proofs.Turns.{rows-set}
-use Rattle.lotlog.specs.Wire.{rowsIn}
+use Rattle.lotlog.specs.Wire.{rowsPlace, rowsIn}
 use Rattle.lotlog.proofs.Wiring.{read-turn}
 use Rattle.lotlog.proofs.wire.read_rows.Statement.{statement}
 use Rattle.lotlog.proofs.wire.read_rows.Tie as tie
 
 abbrev Inv-loop : tie.InvT-loop
-Inv-loop bytes rows₀ l₀ rows l = (l ≤ v1 .levels) × (length (rowsOf rows) ≡ v1 .levels) × (take l (rowsOf rows) ≡ rowsIn l (drop 48 bytes))
+Inv-loop bytes rows₀ l₀ rows l = (l ≤ v1 .levels) × (length (rowsOf rows) ≡ v1 .levels) × (take l (rowsOf rows) ≡ rowsIn l (drop rowsPlace bytes))
 
 abbrev μ-loop : tie.MeasureT-loop
 μ-loop bytes rows₀ l₀ rows l = v1 .levels - l
@@ -53,14 +53,14 @@ loop-again c =
     let b = c .before .before .before .before .args .bytes .now in (
       omega arith,
       ap length (rows-set (l .rows) (l .l) row) ∙ length-set (rowsOf (l .rows)) (l .l) (c .row-at .result) ∙ l .inv .1,
-      read-turn (l .rows) b 48 (l .l) row (omega arith) (l .inv .2) (c .row-at .ensures),
+      read-turn (l .rows) b rowsPlace (l .l) row (omega arith) (l .inv .2) (c .row-at .ensures),
     )
 
 returns : tie.Need-returns Inv-loop μ-loop
 returns c =
     let l = c .before .loop in
     let e : l .l ≡ v1 .levels = omega arith in
-    sym (take-all (l .l) (rowsOf (l .rows)) (omega arith)) ∙ l .inv .2 ∙ ap (λ (k : ℕ). rowsIn k (drop 48 (now (c .before .before .args .bytes)))) e
+    sym (take-all (l .l) (rowsOf (l .rows)) (omega arith)) ∙ l .inv .2 ∙ ap (λ (k : ℕ). rowsIn k (drop rowsPlace (now (c .before .before .args .bytes)))) e
 
 pub read-rows-spec : {M : Type 1} → statement M
 read-rows-spec =

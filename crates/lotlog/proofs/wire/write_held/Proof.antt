@@ -1,9 +1,10 @@
--- `lotlog::wire::write_held` meets its contract: its four writes, one behind the other, fill the 688 bytes.
+-- `lotlog::wire::write_held` meets its contract: its four writes, one behind the other, fill the heldBytes bytes.
 use mathlib.Core.Path.{_≡_}
 use native.Mathlib.Omega.{arith}
 use lib.ListN.{length}
 use denote.Ref.{now}
 use Rattle.held.specs.Holding.{holds}
+use Rattle.lotlog.specs.Wire.{heldBytes}
 use Rattle.lotlog.proofs.Wiring.{written}
 use borrow.Author.Needs.{needs}
 use Rattle.lotlog.proofs.wire.write_held.Statement.{statement}
@@ -42,7 +43,7 @@ returns c =
     let two = c .before .before .before .before .put2 in
     let three = c .before .before .put-digest in
     let four = c .put-rows in
-    let room : length (now (a .out)) ≡ 688 = omega arith in
+    let room : length (now (a .out)) ≡ heldBytes = omega arith in
     written (holds (a .h)) (now (a .out)) (one .last .0) (two .last .0) (three .last .1 .0) (four .last .1 .0) (log .result) (count .result) room (log .ensures) (count .ensures)
     (three .ensures .1) (four .ensures .1) (one .ensures) (two .ensures) (three .ensures .0) (four .ensures .0)
 

@@ -1,9 +1,9 @@
--- `lotlog::lent::leave` meets its contract, by the laws of the two cases.
+-- `lotlog::answering::leave` meets its contract, by the laws of the two cases.
 use native.Mathlib.Omega.{arith}
 use denote.Ref.{now}
 use Rattle.lotlog.specs.Exports.{kept, given}
-use Rattle.lotlog.proofs.lent.leave.Statement.{statement}
-use Rattle.lotlog.proofs.lent.leave.Tie as tie
+use Rattle.lotlog.proofs.answering.leave.Statement.{statement}
+use Rattle.lotlog.proofs.answering.leave.Tie as tie
 
 returns : tie.Need-returns
 returns c = let a = c .before .args in kept (a .number) (a .new) (now (a .lent)) (c .if1 .taken)
