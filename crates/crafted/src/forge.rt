@@ -89,7 +89,7 @@ fn mended_at(place: u64, at: usize) -> usize {
 
 // Writes the components of the path from i to n, up to this place on it; the one there hashes, under the stand-in, as that of the model does.
 // Gives the last digest.
-pub fn forge(
+pub(crate) fn forge(
     entry: &[u8],
     i: Position,
     n: Length,

@@ -3,11 +3,11 @@ use checker::Verdict;
 use dispute::Answer;
 use libc::STDOUT_FILENO;
 
-pub fn text(t: &[u8]) {
+pub(crate) fn text(t: &[u8]) {
     io::write_all(STDOUT_FILENO, t);
 }
 
-pub fn number(before: &[u8], n: u64) {
+pub(crate) fn number(before: &[u8], n: u64) {
     text(before);
     io::print_decimal(STDOUT_FILENO, n);
 }
@@ -17,7 +17,7 @@ fn refused(num: u64, hops: u64) {
     number(b" ", hops);
 }
 
-pub fn verdict(v: Verdict) {
+pub(crate) fn verdict(v: Verdict) {
     match v {
         Verdict::Accepted { hops } => number(b"accepted ", hops),
         Verdict::EntryTooLong => refused(3, 0),
@@ -29,7 +29,7 @@ pub fn verdict(v: Verdict) {
     }
 }
 
-pub fn answer(a: Answer) {
+pub(crate) fn answer(a: Answer) {
     match a {
         Answer::Same => text(b"same"),
         Answer::Shown { first, second } => {
@@ -42,7 +42,7 @@ pub fn answer(a: Answer) {
 }
 
 // Whether the front parts of two strings differ, and whether they hash alike.
-pub fn compared(x: &[u8], a: usize, y: &[u8], b: usize) {
+pub(crate) fn compared(x: &[u8], a: usize, y: &[u8], b: usize) {
     if x.len() < a {
         return;
     }

@@ -38,7 +38,7 @@ fn show_both(head: &[u8], first: &[u8], second: &[u8], out1: &mut [u8], out2: &m
 }
 
 // Shows the messages of the two components of element j, which begin at `at`.
-pub fn show_elements(
+pub(crate) fn show_elements(
     j: Position,
     at: usize,
     proof1: &[u8],
@@ -57,7 +57,7 @@ pub fn show_elements(
 }
 
 // Shows the messages of the two entries, if they differ.
-pub fn show_entries(entry1: &[u8], entry2: &[u8], out1: &mut [u8], out2: &mut [u8]) -> Answer
+pub(crate) fn show_entries(entry1: &[u8], entry2: &[u8], out1: &mut [u8], out2: &mut [u8]) -> Answer
     requires { ⌜ (1 + length (now entry1) ≤ length (now out1)) × (1 + length (now entry2) ≤ length (now out2)) ⌝ }
     ensures { λ r. ⌜ outcome r (now (out1 .exit)) (now (out2 .exit)) ≡ showing (unlike (same (now (entry1 .entry)) (now (entry2 .entry))) (entryMsg (now (entry1 .entry)), entryMsg (now (entry2 .entry)))) (now (out1 .entry)) (now (out2 .entry)) ⌝ }
 {
