@@ -1,6 +1,6 @@
 -- The numbers that a store has a proof for: what a caller knows once they are found to fit the count, and what the refusals say.
 use mathlib.Core.Path.{_≡_, sym, _∙_}
-use mathlib.Core.Bool.{Bool, true, false, not, _&&_, and-eq-true-iff}
+use mathlib.Core.Bool.{Bool, true, false, cond, not, _&&_, and-eq-true-iff}
 use Prim.Native.Nat.{ℕ, _≤_}
 use native.Mathlib.Nat.{le-trans}
 use native.Mathlib.Omega.{arith}
@@ -41,6 +41,10 @@ module _ (s : Bytes) (m : Length) (known : InOrder s m) (i n : ℕ) (r : Bool) (
 
   pub uncovered : not r ≡ true → covered (countOf v1 s) i n ≡ false
   uncovered h = rw (known .counted) (sym told ∙ not-true r h)
+
+-- The length of a path is what is told, where the numbers fit.
+pub size-told : {b : Bool} {m t : ℕ} → m ≡ cond b t 0 → b ≡ true → m ≡ t
+size-told e h = rw h at e
 
 -- ---- an element that is asked for is 1 or more
 

@@ -15,19 +15,20 @@ use Rattle.held.proofs.Turns.{is-used, is-free, rows-set}
 
 -- ---- one row
 
+-- The bits below a, cleared by a shift down and a shift up: nothing is lost,
+pub shifts-exact : (n a : ℕ) → n < 2 ^ 64 → (n / 2 ^ a * 2 ^ a) % 2 ^ 64 ≡ n / 2 ^ a * 2 ^ a
+shifts-exact n a top = let d = div-add-mod' n (2 ^ a) in mod-eq-of-lt (omega arith)
+
+-- and what is left is no more than before.
+pub shifts-le : (n a : ℕ) → n < 2 ^ 64 → (n / 2 ^ a * 2 ^ a) % 2 ^ 64 ≤ n
+shifts-le n a top = let d = div-add-mod' n (2 ^ a) in omega (arith, shifts-exact n a top)
+
 module _ (T : ℕ → Bytes) (n l : ℕ) where
   pub row-free : n / 2 ^ l % 2 ≡ 0 → zeros ≡ rowOf T n l
   row-free e = rw (is-free (n / 2 ^ l) e)
 
-  -- n with bits 0 to l cleared, as a shift down and a shift up give it
-  pub cleared : n < 2 ^ 64 → (n / 2 ^ (l + 1) * 2 ^ (l + 1)) % 2 ^ 64 ≡ n / 2 ^ suc l * 2 ^ suc l
-  cleared top = let d = div-add-mod' n (2 ^ suc l) in rw add-one (mod-eq-of-lt (omega arith))
-
-  pub cleared-le : n / 2 ^ suc l * 2 ^ suc l ≤ n
-  cleared-le = let d = div-add-mod' n (2 ^ suc l) in omega arith
-
-  pub row-used : (t : Bytes) (m : ℕ) → (n / 2 ^ l % 2 ≡ 0 → ⊥) → t ≡ T m → m ≡ n / 2 ^ suc l * 2 ^ suc l → t ≡ rowOf T n l
-  row-used t m u e em = rw (is-used (n / 2 ^ l) u) (e ∙ ap T em)
+  pub row-used : (t : Bytes) → n < 2 ^ 64 → (n / 2 ^ l % 2 ≡ 0 → ⊥) → t ≡ T ((n / 2 ^ (l + 1) * 2 ^ (l + 1)) % 2 ^ 64) → t ≡ rowOf T n l
+  row-used t top u e = rw (is-used (n / 2 ^ l) u) (e ∙ ap T (rw add-one (shifts-exact n (suc l) top)))
 
 -- ---- all of them
 

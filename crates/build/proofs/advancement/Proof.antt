@@ -15,7 +15,7 @@ use Rattle.rules.specs.Verdicts.{upward-test}
 use Rattle.rules.specs.Answers.{build-damaged, build-unasked, build-short, build-done}
 use Rattle.store.proofs.Laws.{InOrder, in-order, broken}
 use Rattle.build.specs.Parts.{advancementIn}
-use Rattle.build.proofs.Asking.{Covers, covers, uncovered}
+use Rattle.build.proofs.Asking.{Covers, covers, uncovered, size-told}
 use Rattle.build.proofs.Writing.{advancement-written}
 use Rattle.build.proofs.advancement.Statement.{statement}
 use Rattle.build.proofs.advancement.Tie as tie
@@ -29,7 +29,7 @@ known : (c : tie.Else1) → let a = c .before .before .before .before .before .b
 known c = covers _ _ (counted (c .before .before .before)) _ _ _ (c .before .covers .ensures) (c .if1 .left)
 
 sized : (c : tie.After-advancement-len) → let a = c .before .before .before .before .before .before .before .before .before .args in c .advancement-len .result ≡ total v1 (pathAfter (a .i .0) (a .n .0))
-sized c = let k = known (c .before) in rw (upward-test v1 _ _ (k .up) (k .few)) at (c .advancement-len .ensures)
+sized c = let k = known (c .before) in size-told (c .advancement-len .ensures) (upward-test v1 _ _ (k .up) (k .few))
 
 count-requires : tie.Need-count-requires
 count-requires c κs = search needs

@@ -7,7 +7,7 @@ use Rattle.hash.specs.Hash.{hashOf}
 use Rattle.rules.specs.Numbers.{v1}
 use Rattle.rules.specs.Store.{tOf}
 use Rattle.rules.specs.Places.{place-mono}
-use Rattle.build.proofs.Filling.{row-free, row-used, cleared, cleared-le}
+use Rattle.build.proofs.Filling.{shifts-le, row-free, row-used}
 use Rattle.build.proofs.basis_row.Statement.{statement}
 use Rattle.build.proofs.basis_row.Tie as tie
 
@@ -28,17 +28,13 @@ shl-t11 c = search needs
 
 stored-digest-requires : tie.Need-stored-digest-requires
 stored-digest-requires c κs =
-    let a = c .before .before .before .before .args in
-    let n = a .at .0 in
-    let e = cleared (tOf hashOf v1 (now (a .s))) n (a .level) (omega arith) in
-    let m = cleared-le (tOf hashOf v1 (now (a .s))) n (a .level) in
-    rw e (le-trans (place-mono v1 _ n m) (omega arith), omega arith)
+    let n = c .before .before .before .before .args .at .0 in
+    (le-trans (place-mono v1 _ n (shifts-le n _ (omega arith))) (omega arith), le-trans (shifts-le n _ (omega arith)) (omega arith))
 
 returns-2 : tie.Need-returns-2
 returns-2 c =
     let a = c .before .before .before .before .before .args in
-    let T = tOf hashOf v1 (now (a .s)) in
-    row-used T (a .at .0) (a .level) (c .stored-digest .result .bytes) _ (c .before .before .if1 .left) (c .stored-digest .ensures) (cleared T (a .at .0) (a .level) (omega arith))
+    row-used (tOf hashOf v1 (now (a .s))) (a .at .0) (a .level) (c .stored-digest .result .bytes) (omega arith) (c .before .before .if1 .left) (c .stored-digest .ensures)
 
 pub basis-row-spec : {M : Type 1} → statement M
 basis-row-spec =

@@ -1,6 +1,6 @@
 -- `build::held_at` meets its contract, by its tests: what is read is put together as the rule says.
 use mathlib.Core.Path.{_≡_, sym, ap, _∙_}
-use Prim.Native.Nat.{_≤_}
+use Prim.Native.Nat.{ℕ, _≤_}
 use lib.ListN.{length}
 use native.Mathlib.Nat.{le-trans}
 use native.Mathlib.Omega.{arith}
@@ -49,16 +49,15 @@ returns-2 c =
     let k = counted (c .before .before .before .before .before) in
     ap (heldFound noSuchNumber) (c .all-zeros2 .ensures) ∙ sym (held-above hashOf v1 (now (a .store)) (a .at .0) (k .sound) (omega (arith, k .counted, c .before .if1 .taken)))
 
-reads-within : (c : tie.Else1) → let a = c .before .before .before .before .before .before .before .before .args in (place v1 (a .at .0) ≤ length (now (a .store))) × (a .at .0 ≤ limit v1)
-reads-within c =
-    let k = counted (c .before .before .before .before) in
-    (le-trans (place-mono v1 _ _ (c .if1 .left)) (k .fits), omega (arith, k .few, c .if1 .left))
+-- what is read of a length up to the count lies within the store
+within : (c : tie.After-counted) (j : ℕ) → j ≤ c .counted .given .0 .0 .0 → (place v1 j ≤ length (now (c .before .before .before .before .args .store))) × (j ≤ limit v1)
+within c j h = let k = counted c in (le-trans (place-mono v1 j _ h) (k .fits), le-trans h (k .few))
 
 stored-digest-requires : tie.Need-stored-digest-requires
-stored-digest-requires c κs = reads-within c
+stored-digest-requires c κs = within (c .before .before .before .before) _ (omega (arith, c .if1 .left))
 
 basis-rows-requires : tie.Need-basis-rows-requires
-basis-rows-requires c κs = reads-within (c .before)
+basis-rows-requires c κs = within (c .before .before .before .before .before) _ (omega (arith, c .before .if1 .left))
 
 log-of-requires : tie.Need-log-of-requires
 log-of-requires c κs = counted (c .before .before .before .before .before .before) .long

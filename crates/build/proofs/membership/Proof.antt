@@ -16,7 +16,7 @@ use Rattle.rules.specs.Bounds.{total-first}
 use Rattle.rules.specs.Answers.{build-damaged, build-unasked, build-short, build-done}
 use Rattle.store.proofs.Laws.{InOrder, in-order, broken}
 use Rattle.build.specs.Parts.{membershipIn}
-use Rattle.build.proofs.Asking.{Covers, covers, uncovered, start-unasked, element-asked}
+use Rattle.build.proofs.Asking.{Covers, covers, uncovered, size-told, start-unasked, element-asked}
 use Rattle.build.proofs.Writing.{membership-written}
 use Rattle.build.proofs.membership.Statement.{statement}
 use Rattle.build.proofs.membership.Tie as tie
@@ -33,7 +33,7 @@ low : (c : tie.Else1) → 1 ≤ c .before .before .before .before .before .befor
 low c = omega (arith, c .if1 .left)
 
 sized : (c : tie.After-membership-len) → let a = c .before .before .before .before .before .before .before .before .before .before .before .args in c .membership-len .result ≡ total v1 (path (a .i .0) (a .n .0))
-sized c = let k = known (c .before) in rw (between-test v1 _ _ (low (c .before .before .before)) (k .up) (k .few)) at (c .membership-len .ensures)
+sized c = let k = known (c .before) in size-told (c .membership-len .ensures) (between-test v1 _ _ (low (c .before .before .before)) (k .up) (k .few))
 
 count-requires : tie.Need-count-requires
 count-requires c κs = search needs
