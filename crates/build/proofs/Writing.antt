@@ -18,7 +18,7 @@ use Rattle.rules.specs.Hops.{hops-ind, after-step, after-end, level-hop}
 use Rattle.rules.specs.Places.{place-mono}
 use Rattle.rules.specs.Stored.{body-length}
 use Rattle.rules.specs.Bounds.{total-first, total-after-step}
-use Rattle.store.specs.Pasting.{paste-all, paste-more}
+use Rattle.lists.specs.Pasting.{paste-all, paste-more}
 use Rattle.store.specs.Linking.{linked-length}
 use Rattle.build.specs.Parts.{componentIn, membershipIn, advancementIn}
 

@@ -9,8 +9,24 @@ use hash::Digest;
 use path::Length;
 use path::Position;
 
-// Both checks, the differing part and the dispute, in one line.
-fn run(
+// What the checker says of a proof.
+fn check(entry: &[u8], proof: &[u8], i: Position, n: Length, digest: Digest) {
+    say::verdict(checker::check_membership(entry, i, n, digest, proof));
+}
+
+// The differing part of two proofs.
+fn part(proof1: &[u8], proof2: &[u8], i: Position, n: Length) {
+    let part = dispute::differing_at(proof1, proof2, i, n);
+    say::number(b"; part at ", part.from as u64);
+    say::number(
+        b" of ",
+        dispute::differing(proof1, proof2, i, n).len() as u64,
+    );
+    say::text(b"; ");
+}
+
+// The dispute, and whether what it hands over is what it says.
+fn settle(
     entry1: &[u8],
     proof1: &[u8],
     entry2: &[u8],
@@ -19,16 +35,6 @@ fn run(
     n: Length,
     digest: Digest,
 ) {
-    say::verdict(checker::check_membership(entry1, i, n, digest, proof1));
-    say::text(b", ");
-    say::verdict(checker::check_membership(entry2, i, n, digest, proof2));
-    let part = dispute::differing_at(proof1, proof2, i, n);
-    say::number(b"; part at ", part.from as u64);
-    say::number(
-        b" of ",
-        dispute::differing(proof1, proof2, i, n).len() as u64,
-    );
-    say::text(b"; ");
     let mut out1 = [0u8; 4097];
     let mut out2 = [0u8; 4097];
     let answer = dispute::dispute(
@@ -46,6 +52,23 @@ fn run(
     if let Answer::Shown { first, second } = answer {
         say::compared(&out1, first, &out2, second);
     }
+}
+
+// Both checks, the differing part and the dispute, in one line.
+fn run(
+    entry1: &[u8],
+    proof1: &[u8],
+    entry2: &[u8],
+    proof2: &[u8],
+    i: Position,
+    n: Length,
+    digest: Digest,
+) {
+    check(entry1, proof1, i, n, digest);
+    say::text(b", ");
+    check(entry2, proof2, i, n, digest);
+    part(proof1, proof2, i, n);
+    settle(entry1, proof1, entry2, proof2, i, n, digest);
     say::text(b"\n");
 }
 

@@ -41,6 +41,28 @@ pub(crate) fn answer(a: Answer) {
     }
 }
 
+// Whether two strings differ.
+fn differ(x: &[u8], y: &[u8]) {
+    if lists::same(x, y) {
+        text(b", equal");
+    } else {
+        text(b", different");
+    }
+}
+
+// Whether two strings hash alike.
+fn alike(x: &[u8], y: &[u8]) {
+    let one = hash::joined(x, b"");
+    let two = hash::joined(y, b"");
+    let d1 = one.bytes;
+    let d2 = two.bytes;
+    if lists::same(&d1, &d2) {
+        text(b", one hash");
+    } else {
+        text(b", two hashes");
+    }
+}
+
 // Whether the front parts of two strings differ, and whether they hash alike.
 pub(crate) fn compared(x: &[u8], a: usize, y: &[u8], b: usize) {
     if x.len() < a {
@@ -49,18 +71,6 @@ pub(crate) fn compared(x: &[u8], a: usize, y: &[u8], b: usize) {
     if y.len() < b {
         return;
     }
-    if lists::same(&x[0..a], &y[0..b]) {
-        text(b", equal");
-    } else {
-        text(b", different");
-    }
-    let one = hash::joined(&x[0..a], b"");
-    let two = hash::joined(&y[0..b], b"");
-    let d1 = one.bytes;
-    let d2 = two.bytes;
-    if lists::same(&d1, &d2) {
-        text(b", one hash");
-    } else {
-        text(b", two hashes");
-    }
+    differ(&x[0..a], &y[0..b]);
+    alike(&x[0..a], &y[0..b]);
 }

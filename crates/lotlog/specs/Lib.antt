@@ -1,5 +1,4 @@
 pub mod Exports  -- the shapes of what an export leaves
-pub mod Wire  -- the bytes of a held state
 pub mod Outcomes  -- what each export leaves
-pub mod Saying  -- how telling an answer tells the outcome
+pub mod Telling  -- how telling an answer tells the outcome
 pub mod OneOutcome  -- ANY TWO OUTCOMES COINCIDE: every public call, and every export

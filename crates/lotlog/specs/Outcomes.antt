@@ -9,8 +9,8 @@ use Rattle.rules.specs.Refusals.{done}
 use Rattle.rules.specs.Held.{heldStart}
 use Rattle.rules.specs.Dispute.{differing}
 use Rattle.rules.specs.Calls.{startCall, countCall, appendCall, digestCall, heldCall, buildMembershipCall, buildAdvancementCall, auditCall, memberCall, Advanced, advanceCall, disputeCall}
+use Rattle.wire.specs.Wire.{wireOf, heldIn}
 use Rattle.lotlog.specs.Exports.{Told, told, answered, Left, left, unlessRefused, leaves, Wrote, spoken, Showed, shows}
-use Rattle.lotlog.specs.Wire.{wireOf, heldIn}
 
 -- ---- hashing
 

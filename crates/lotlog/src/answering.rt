@@ -1,19 +1,8 @@
 // What an export gives back: the number, the numbers of `answer`, and a lent digest.
 ghost use mathlib.Core.Path.{_≡_};
+ghost use Rattle.numbers.specs.Saying.{answerOf};
 ghost use Rattle.lotlog.specs.Exports.{told, answered, left, leaves};
-ghost use Rattle.lotlog.specs.Saying.{answerOf};
-
-// 01's number, and the number given with it.
-pub struct Said {
-    pub number: u64,
-    pub value: u64,
-}
-
-pub fn say(number: u64, value: u64) -> Said
-    ensures { λ r. ⌜ (r .number ≡ number) × (r .value ≡ value) ⌝ }
-{
-    Said { number, value }
-}
+use numbers::Said;
 
 // Writes the answer; gives the number to return.
 pub fn tell(s: Said, answer: &mut [u64; 3]) -> u64

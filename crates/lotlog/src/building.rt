@@ -1,27 +1,10 @@
 // Building proofs.
 ghost use mathlib.Core.Path.{_≡_};
-ghost use Rattle.build.specs.Told.{builtTold};
 ghost use Rattle.lotlog.specs.Exports.{wrote};
-ghost use Rattle.lotlog.specs.Saying.{Says};
 ghost use Rattle.lotlog.specs.Outcomes.{lotBuildMembership, lotBuildAdvancement};
-use super::answering::Said;
-use super::answering::say;
 use super::answering::tell;
-use build::Built;
 use path::Length;
 use path::Position;
-
-// The number and the proof's length.
-fn built_said(b: Built) -> Said
-    ensures { λ r. ⌜ Says r (builtTold b) ⌝ }
-{
-    match b {
-        Built::Written { size } => say(0, size),
-        Built::Damaged => say(1, 0),
-        Built::NoSuchNumber => say(4, 0),
-        Built::OutputShort => say(6, 0),
-    }
-}
 
 // Writes the membership proof of element i in the log of n elements to the start of `out`; what stands behind it stays. Answer: its length.
 #[no_mangle]
@@ -35,7 +18,7 @@ pub extern "C" fn lot_build_membership(
     ensures { λ r. ⌜ wrote r (now (answer .exit)) (now (out .exit)) ≡ lotBuildMembership (now (store .entry)) i n (now (out .entry)) ⌝ }
 {
     let b = build::membership(store, Position(i), Length(n), out);
-    tell(built_said(b), answer)
+    tell(numbers::built(b), answer)
 }
 
 // Writes the advancement proof from i to n elements to the start of `out`; what stands behind it stays. Answer: its length.
@@ -50,5 +33,5 @@ pub extern "C" fn lot_build_advancement(
     ensures { λ r. ⌜ wrote r (now (answer .exit)) (now (out .exit)) ≡ lotBuildAdvancement (now (store .entry)) i n (now (out .entry)) ⌝ }
 {
     let b = build::advancement(store, Length(i), Length(n), out);
-    tell(built_said(b), answer)
+    tell(numbers::built(b), answer)
 }

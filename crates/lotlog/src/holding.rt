@@ -1,12 +1,13 @@
 // Held states.
 ghost use mathlib.Core.Path.{_≡_};
-ghost use Rattle.lotlog.specs.Exports.{left};
+ghost use Rattle.held.specs.Holding.{holds};
+ghost use Rattle.wire.specs.Wire.{wireOf};
+ghost use Rattle.lotlog.specs.Exports.{left, leaves};
 ghost use Rattle.lotlog.specs.Outcomes.{lotHeldStart, lotHeldAt};
-use super::storing::found_number;
-use super::wire::HELD_BYTES;
-use super::wire::leave_held;
-use super::wire::write_held;
+use held::Held;
 use path::Length;
+use wire::HELD_BYTES;
+use wire::write_held;
 
 // The state that a practice holds of a log before its first element.
 #[no_mangle]
@@ -14,6 +15,17 @@ pub extern "C" fn lot_held_start(log: u64, held: &mut [u8; HELD_BYTES]) -> u64
     ensures { λ r. ⌜ left r (now (held .exit)) ≡ lotHeldStart log ⌝ }
 {
     write_held(held::start(log), held);
+    0
+}
+
+// Writes a state unless the number is a refusal; gives the number to return.
+pub fn leave_held(number: u64, new: Held, lent: &mut [u8; HELD_BYTES]) -> u64
+    ensures { λ r. ⌜ left r (now (lent .exit)) ≡ leaves number (wireOf (holds new)) (now (lent .entry)) ⌝ }
+{
+    if number != 0 {
+        return number;
+    }
+    write_held(new, lent);
     0
 }
 
@@ -25,5 +37,5 @@ pub extern "C" fn lot_held_at(store: &[u8], at: u64, held: &mut [u8; HELD_BYTES]
     let r = build::held_at(store, Length(at));
     let found = r.found;
     let h = r.held;
-    leave_held(found_number(found), h, held)
+    leave_held(numbers::found(found), h, held)
 }

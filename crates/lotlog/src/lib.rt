@@ -8,4 +8,3 @@ mod disputing; // the dispute
 mod hashing; // SHA-256
 mod holding; // held states
 mod storing; // the store
-mod wire; // held states as bytes

@@ -4,7 +4,7 @@ use denote.Ref.{now}
 use Rattle.hash.specs.Hash.{hashOf}
 use Rattle.rules.specs.Numbers.{v1}
 use Rattle.rules.specs.Calls.{advanceCall}
-use Rattle.lotlog.specs.Saying.{tells-advanced}
+use Rattle.lotlog.specs.Telling.{tells-advanced}
 use Rattle.lotlog.specs.Outcomes.{lotCheckAdvancement}
 use Rattle.lotlog.proofs.checking.lot_check_advancement.Statement.{statement}
 use Rattle.lotlog.proofs.checking.lot_check_advancement.Tie as tie
@@ -15,8 +15,8 @@ read-held-requires c κs = search needs
 check-advancement-requires : tie.Need-check-advancement-requires
 check-advancement-requires c κs = search needs
 
-advance-said-requires : tie.Need-advance-said-requires
-advance-said-requires c κs = search needs
+advanced-requires : tie.Need-advanced-requires
+advanced-requires c κs = search needs
 
 leave-held-requires : tie.Need-leave-held-requires
 leave-held-requires c κs = search needs
@@ -28,7 +28,7 @@ returns : tie.Need-returns
 unfolding lotCheckAdvancement
 returns c =
     let a = c .before .before .before .before .before .before .before .before .before .before .before .args in
-    tells-advanced (c .tell .ensures) (c .before .before .before .before .advance-said .ensures)
+    tells-advanced (c .tell .ensures) (c .before .before .before .before .advanced .ensures)
     (now (a .held)) (λ h. advanceCall hashOf v1 h (a .n) (now (a .digest)) (now (a .proof)))
     (c .before .before .leave-held .ensures) (c .before .before .before .before .before .before .check-advancement .ensures)
     (c .before .before .before .before .before .before .before .read-held .ensures)
@@ -39,7 +39,7 @@ lot-check-advancement-spec =
     (tie.spec
     read-held-requires
     check-advancement-requires
-    advance-said-requires
+    advanced-requires
     leave-held-requires
     tell-requires
     returns)

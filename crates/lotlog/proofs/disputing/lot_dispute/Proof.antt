@@ -1,6 +1,6 @@
 -- `lotlog::disputing::lot_dispute` meets its contract: the call does the work, and its answer is told.
 use borrow.Author.Needs.{needs}
-use Rattle.lotlog.specs.Saying.{tells-found}
+use Rattle.lotlog.specs.Telling.{tells-found}
 use Rattle.lotlog.specs.Outcomes.{lotDispute}
 use Rattle.lotlog.proofs.disputing.lot_dispute.Statement.{statement}
 use Rattle.lotlog.proofs.disputing.lot_dispute.Tie as tie

@@ -1,8 +1,8 @@
 -- `lotlog::holding::lot_held_start` meets its contract: it writes the bytes of the state that the call gives.
 use mathlib.Core.Path.{ap, _∙_}
 use borrow.Author.Needs.{needs}
+use Rattle.wire.specs.Wire.{wireOf}
 use Rattle.lotlog.specs.Exports.{left}
-use Rattle.lotlog.specs.Wire.{wireOf}
 use Rattle.lotlog.specs.Outcomes.{lotHeldStart}
 use Rattle.lotlog.proofs.holding.lot_held_start.Statement.{statement}
 use Rattle.lotlog.proofs.holding.lot_held_start.Tie as tie

@@ -11,8 +11,8 @@ use Rattle.lotlog.proofs.storing.lot_start.Tie as tie
 start-requires : tie.Need-start-requires
 start-requires c κs = search needs
 
-start-number-requires : tie.Need-start-number-requires
-start-number-requires c κs = search needs
+started-requires : tie.Need-started-requires
+started-requires c κs = search needs
 
 same-length : tie.Need-same-length
 same-length c = search needs
@@ -21,7 +21,7 @@ returns : tie.Need-returns
 unfolding lotStart
 returns c =
     let s = c .before .before .before .start in
-    ap (λ (n : ℕ). left n (s .last .0)) (c .start-number .ensures) ∙ ap (λ (w : Written). left (w .answer .number) (w .bytes)) (s .ensures)
+    ap (λ (n : ℕ). left n (s .last .0)) (c .started .ensures) ∙ ap (λ (w : Written). left (w .answer .number) (w .bytes)) (s .ensures)
 
 pub lot-start-spec : {M : Type 1} → statement M
-lot-start-spec = tie.close (tie.spec start-requires start-number-requires same-length returns)
+lot-start-spec = tie.close (tie.spec start-requires started-requires same-length returns)

@@ -1,4 +1,4 @@
--- `lotlog::wire::read_rows` meets its contract: after l turns the first l rows are those that stand in the bytes.
+-- `wire::read_rows` meets its contract: after l turns the first l rows are those that stand in the bytes.
 use mathlib.Core.Path.{_≡_, refl, sym, ap, _∙_}
 use Prim.Native.Nat.{ℕ, _-_, _≤_}
 use native.Mathlib.Omega.{arith}
@@ -10,10 +10,10 @@ use Rattle.hash.specs.declared.Digest.{Digest}
 use Rattle.rules.specs.Numbers.{v1}
 use Rattle.held.specs.Holding.{rowsOf}
 use Rattle.held.proofs.Turns.{rows-set}
-use Rattle.lotlog.specs.Wire.{rowsPlace, rowsIn}
-use Rattle.lotlog.proofs.Wiring.{read-turn}
-use Rattle.lotlog.proofs.wire.read_rows.Statement.{statement}
-use Rattle.lotlog.proofs.wire.read_rows.Tie as tie
+use Rattle.wire.specs.Wire.{rowsPlace, rowsIn}
+use Rattle.wire.proofs.Wiring.{read-turn}
+use Rattle.wire.proofs.read_rows.Statement.{statement}
+use Rattle.wire.proofs.read_rows.Tie as tie
 
 abbrev Inv-loop : tie.InvT-loop
 Inv-loop bytes rows₀ l₀ rows l = (l ≤ v1 .levels) × (length (rowsOf rows) ≡ v1 .levels) × (take l (rowsOf rows) ≡ rowsIn l (drop rowsPlace bytes))

@@ -1,13 +1,13 @@
--- `lotlog::wire::leave_held` meets its contract, by the laws of the two cases.
+-- `lotlog::holding::leave_held` meets its contract, by the laws of the two cases.
 use mathlib.Core.Path.{ap, _∙_}
 use native.Mathlib.Omega.{arith}
 use borrow.Author.Needs.{needs}
 use denote.Ref.{now}
 use Rattle.held.specs.Holding.{holds}
+use Rattle.wire.specs.Wire.{wireOf}
 use Rattle.lotlog.specs.Exports.{left, kept, given}
-use Rattle.lotlog.specs.Wire.{wireOf}
-use Rattle.lotlog.proofs.wire.leave_held.Statement.{statement}
-use Rattle.lotlog.proofs.wire.leave_held.Tie as tie
+use Rattle.lotlog.proofs.holding.leave_held.Statement.{statement}
+use Rattle.lotlog.proofs.holding.leave_held.Tie as tie
 
 returns : tie.Need-returns
 returns c = let a = c .before .args in kept (a .number) (wireOf (holds (a .new))) (now (a .lent)) (c .if1 .taken)

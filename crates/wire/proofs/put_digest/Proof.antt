@@ -1,13 +1,13 @@
--- `lotlog::wire::put_digest` meets its contract, by that of `lists::put`: the bytes are heldBytes, and a digest is 32.
+-- `wire::put_digest` meets its contract, by that of `lists::put`: the bytes are heldBytes, and a digest is 32.
 use mathlib.Core.Path.{_≡_}
 use Prim.Native.Nat.{_+_, _≤_}
 use native.Mathlib.Omega.{arith}
 use lib.ListN.{length}
 use denote.Ref.{now}
 use borrow.Author.Needs.{needs}
-use Rattle.lotlog.specs.Wire.{heldBytes}
-use Rattle.lotlog.proofs.wire.put_digest.Statement.{statement}
-use Rattle.lotlog.proofs.wire.put_digest.Tie as tie
+use Rattle.wire.specs.Wire.{heldBytes}
+use Rattle.wire.proofs.put_digest.Statement.{statement}
+use Rattle.wire.proofs.put_digest.Tie as tie
 
 slice-aggregate-put : tie.Need-slice-aggregate-put
 slice-aggregate-put c = search needs

@@ -1,14 +1,14 @@
--- `lotlog::wire::write_held` meets its contract: its four writes, one behind the other, fill the heldBytes bytes.
+-- `wire::write_held` meets its contract: its four writes, one behind the other, fill the heldBytes bytes.
 use mathlib.Core.Path.{_≡_}
 use native.Mathlib.Omega.{arith}
 use lib.ListN.{length}
 use denote.Ref.{now}
 use Rattle.held.specs.Holding.{holds}
-use Rattle.lotlog.specs.Wire.{heldBytes}
-use Rattle.lotlog.proofs.Wiring.{written}
+use Rattle.wire.specs.Wire.{heldBytes}
+use Rattle.wire.proofs.Wiring.{written}
 use borrow.Author.Needs.{needs}
-use Rattle.lotlog.proofs.wire.write_held.Statement.{statement}
-use Rattle.lotlog.proofs.wire.write_held.Tie as tie
+use Rattle.wire.proofs.write_held.Statement.{statement}
+use Rattle.wire.proofs.write_held.Tie as tie
 
 bytes-of-requires : tie.Need-bytes-of-requires
 bytes-of-requires c κs = search needs

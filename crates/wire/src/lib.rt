@@ -5,8 +5,7 @@ ghost use lib.ListN.{length, drop};
 ghost use lib.Seq.{paste};
 ghost use Rattle.rules.specs.Numbers.{v1};
 ghost use Rattle.held.specs.Holding.{rowsOf, holds};
-ghost use Rattle.lotlog.specs.Exports.{left, leaves};
-ghost use Rattle.lotlog.specs.Wire.{rowsPlace, rowsBytes, heldBytes, flat, rowsIn, wireOf, heldIn};
+ghost use Rattle.wire.specs.Wire.{rowsPlace, rowsBytes, heldBytes, flat, rowsIn, wireOf, heldIn};
 use hash::Digest;
 use held::Held;
 use path::Length;
@@ -75,15 +74,4 @@ pub fn write_held(h: Held, out: &mut [u8; HELD_BYTES])
     lists::put(out, 8, &count, 8);
     put_digest(h.digest, out, 16);
     put_rows(rows, out);
-}
-
-// Writes a state unless the number is a refusal; gives the number to return.
-pub fn leave_held(number: u64, new: Held, lent: &mut [u8; HELD_BYTES]) -> u64
-    ensures { λ r. ⌜ left r (now (lent .exit)) ≡ leaves number (wireOf (holds new)) (now (lent .entry)) ⌝ }
-{
-    if number != 0 {
-        return number;
-    }
-    write_held(new, lent);
-    0
 }

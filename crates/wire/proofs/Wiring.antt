@@ -12,8 +12,8 @@ use Rattle.hash.specs.declared.Digest.{Digest}
 use Rattle.rules.specs.Held.{Held}
 use Rattle.held.specs.Holding.{bytesOf, rowsOf}
 use Rattle.held.proofs.Turns.{noDigest, row-of, rows-set}
-use Rattle.store.specs.Pasting.{paste-exact, paste-more}
-use Rattle.lotlog.specs.Wire.{rowsPlace, rowsBytes, heldBytes, flat, rowsIn, wireOf, flat-more, rows-more}
+use Rattle.lists.specs.Pasting.{paste-exact, paste-more}
+use Rattle.wire.specs.Wire.{rowsPlace, rowsBytes, heldBytes, flat, rowsIn, wireOf, flat-more, rows-more}
 
 -- row l, which stands at index at + 32 l, is stored behind those before it
 pub read-turn : (rows : List Digest) (b : Bytes) (at l : ℕ) (d : Digest) → l < length (rowsOf rows) → take l (rowsOf rows) ≡ rowsIn l (drop at b)

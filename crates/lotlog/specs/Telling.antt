@@ -1,24 +1,14 @@
--- An answer of one number, as the code has it, and how telling it tells the outcome.
+-- How telling what a call answered tells the outcome.
 use mathlib.Core.Path.{_≡_, ap, ap₂, _∙_}
 use Prim.Native.Nat.{ℕ}
 use Rattle.lists.specs.Bytes.{Bytes}
 use Rattle.rules.specs.Held.{Held}
 use Rattle.rules.specs.Calls.{Answer, Written, written, Advanced, Finding, Disputed, disputed}
+use Rattle.numbers.specs.declared.Said.{Said}
+use Rattle.numbers.specs.Saying.{answerOf, Says, says}
+use Rattle.wire.specs.Wire.{wireOf}
 use Rattle.lotlog.specs.Exports.{Told, answered, Left, left, unlessRefused, leaves, Wrote, spoken, Showed, finding, shows}
-use Rattle.lotlog.specs.Wire.{wireOf}
 use Rattle.lotlog.specs.Outcomes.{advances}
-use Rattle.lotlog.specs.declared.answering.Said.{Said}
-
-abbrev pub answerOf : Said → Answer
-answerOf s = record { number = s .number; value = s .value }
-
--- s says what the rules answer, number by number
-pub record Says (s : Said) (a : Answer) : Type 0 where
-  pub number : s .number ≡ a .number
-  pub value : s .value ≡ a .value
-
-says : {s : Said} {a : Answer} → Says s a → answerOf s ≡ a
-says e = ap₂ (λ (n x : ℕ). record { number = n; value = x }) (e .number) (e .value)
 
 module _ {t : Told} {s : Said} {a : Answer} (tells : t ≡ answered (answerOf s)) (e : Says s a) where
   -- Telling what a call answered tells the outcome of the call.

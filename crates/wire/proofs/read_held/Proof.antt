@@ -1,4 +1,4 @@
--- `lotlog::wire::read_held` meets its contract: each part of the state is read where it stands.
+-- `wire::read_held` meets its contract: each part of the state is read where it stands.
 use mathlib.Core.Path.{ap₂, _∙_}
 use mathlib.Core.List.{List}
 use Prim.Native.Nat.{ℕ}
@@ -6,10 +6,10 @@ use lib.ListN.{take, drop}
 use denote.Ref.{now}
 use Rattle.lists.specs.Bytes.{Bytes, number}
 use Rattle.held.specs.Holding.{rowsOf}
-use Rattle.lotlog.specs.Wire.{heldIn}
+use Rattle.wire.specs.Wire.{heldIn}
 use borrow.Author.Needs.{needs}
-use Rattle.lotlog.proofs.wire.read_held.Statement.{statement}
-use Rattle.lotlog.proofs.wire.read_held.Tie as tie
+use Rattle.wire.proofs.read_held.Statement.{statement}
+use Rattle.wire.proofs.read_held.Tie as tie
 
 row-at-requires : tie.Need-row-at-requires
 row-at-requires c κs = search needs

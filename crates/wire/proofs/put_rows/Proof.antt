@@ -1,4 +1,4 @@
--- `lotlog::wire::put_rows` meets its contract: after l turns the first l rows are written.
+-- `wire::put_rows` meets its contract: after l turns the first l rows are written.
 use mathlib.Core.Path.{_≡_, refl, sym, ap, ap₂, _∙_}
 use mathlib.Core.List.{List, []}
 use Prim.Native.Nat.{ℕ, _+_, _*_, _-_, _≤_, _<_}
@@ -11,10 +11,10 @@ use Rattle.lists.specs.Bytes.{Bytes}
 use Rattle.rules.specs.Numbers.{v1}
 use Rattle.held.specs.Holding.{bytesOf, rowsOf}
 use Rattle.held.proofs.Turns.{noDigest}
-use Rattle.lotlog.specs.Wire.{rowsPlace, flat}
-use Rattle.lotlog.proofs.Wiring.{long-turn, write-turn}
-use Rattle.lotlog.proofs.wire.put_rows.Statement.{statement}
-use Rattle.lotlog.proofs.wire.put_rows.Tie as tie
+use Rattle.wire.specs.Wire.{rowsPlace, flat}
+use Rattle.wire.proofs.Wiring.{long-turn, write-turn}
+use Rattle.wire.proofs.put_rows.Statement.{statement}
+use Rattle.wire.proofs.put_rows.Tie as tie
 
 abbrev Inv-loop : tie.InvT-loop
 Inv-loop out₀ rows l₀ out l =

@@ -1,8 +1,8 @@
--- `lotlog::checking::member_said` meets its contract: each verdict has the number and the hops that 01 gives it.
+-- `numbers::member` meets its contract: each verdict has the number and the hops that 01 gives it.
 use borrow.Author.Needs.{needs}
 use Rattle.checker.specs.Verdicts.{verdictOf}
-use Rattle.lotlog.proofs.checking.member_said.Statement.{statement}
-use Rattle.lotlog.proofs.checking.member_said.Tie as tie
+use Rattle.numbers.proofs.member.Statement.{statement}
+use Rattle.numbers.proofs.member.Tie as tie
 
 enum-known-v : tie.Need-enum-known-v
 enum-known-v c = search needs
@@ -74,8 +74,8 @@ returns-7 : tie.Need-returns-7
 unfolding verdictOf
 returns-7 c = search needs
 
-pub member-said-spec : {M : Type 1} → statement M
-member-said-spec =
+pub member-spec : {M : Type 1} → statement M
+member-spec =
     tie.close
     (tie.spec
     enum-known-v

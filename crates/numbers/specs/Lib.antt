@@ -1,0 +1,1 @@
+pub mod Saying  -- what the code says, in the rules' terms

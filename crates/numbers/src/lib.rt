@@ -1,0 +1,126 @@
+// 01's numbers: what each call answers, for a caller that has numbers alone. With the number goes one more: the count, the proof's length, the hops
+// found good, or the wrong element.
+ghost use mathlib.Core.Path.{_≡_};
+ghost use Rattle.store.specs.Told as read;
+ghost use Rattle.audit.specs.Told.{auditTold};
+ghost use Rattle.build.specs.Told.{builtTold};
+ghost use Rattle.rules.specs.Calls.{memberAnswer};
+ghost use Rattle.checker.specs.Verdicts.{verdictOf};
+ghost use Rattle.checker.specs.Advancing.{answerOf};
+ghost use Rattle.numbers.specs.Saying.{Says};
+use audit::Audited;
+use build::Built;
+use checker::Advance;
+use checker::Verdict;
+use store::Appended;
+use store::Counted;
+use store::Found;
+use store::Started;
+
+// 01's number, and the number given with it.
+pub struct Said {
+    pub number: u64,
+    pub value: u64,
+}
+
+pub fn say(number: u64, value: u64) -> Said
+    ensures { λ r. ⌜ (r .number ≡ number) × (r .value ≡ value) ⌝ }
+{
+    Said { number, value }
+}
+
+// The number of what starting a store comes to.
+pub fn started(s: Started) -> u64
+    ensures { λ r. ⌜ r ≡ read.startTold s .number ⌝ }
+{
+    match s {
+        Started::Done => 0,
+        Started::TooShort => 6,
+    }
+}
+
+// The number and the count.
+pub fn counted(c: Counted) -> Said
+    ensures { λ r. ⌜ Says r (read.countTold c) ⌝ }
+{
+    match c {
+        Counted::Count(n) => say(0, n.0),
+        Counted::Damaged => say(1, 0),
+    }
+}
+
+// The number and the count now held.
+pub fn appended(a: Appended) -> Said
+    ensures { λ r. ⌜ Says r (read.appendTold a) ⌝ }
+{
+    match a {
+        Appended::Count(n) => say(0, n.0),
+        Appended::Damaged => say(1, 0),
+        Appended::TooLong => say(3, 0),
+        Appended::Full => say(5, 0),
+    }
+}
+
+// The number of what reading from a store finds.
+pub fn found(f: Found) -> u64
+    ensures { λ r. ⌜ r ≡ read.foundTold f ⌝ }
+{
+    match f {
+        Found::Done => 0,
+        Found::Damaged => 1,
+        Found::NoSuchNumber => 4,
+    }
+}
+
+// The number, and the count or the wrong element.
+pub fn audited(a: Audited) -> Said
+    ensures { λ r. ⌜ Says r (auditTold a) ⌝ }
+{
+    match a {
+        Audited::Sound(n) => say(0, n.0),
+        Audited::Wrong(j) => say(12, j.0),
+        Audited::Damaged => say(1, 0),
+    }
+}
+
+// The number and the proof's length.
+pub fn built(b: Built) -> Said
+    ensures { λ r. ⌜ Says r (builtTold b) ⌝ }
+{
+    match b {
+        Built::Written { size } => say(0, size),
+        Built::Damaged => say(1, 0),
+        Built::NoSuchNumber => say(4, 0),
+        Built::OutputShort => say(6, 0),
+    }
+}
+
+// The number and the hops found good.
+pub fn member(v: Verdict) -> Said
+    ensures { λ r. ⌜ Says r (memberAnswer (verdictOf v)) ⌝ }
+{
+    match v {
+        Verdict::Accepted { hops } => say(0, hops),
+        Verdict::EntryTooLong => say(3, 0),
+        Verdict::NoSuchElement => say(4, 0),
+        Verdict::WrongLength => say(7, 0),
+        Verdict::OtherEntry => say(8, 0),
+        Verdict::LinkDiffers { hops } => say(10, hops),
+        Verdict::DigestDiffers { hops } => say(11, hops),
+    }
+}
+
+// The number and the hops found good.
+pub fn advanced(v: Advance) -> Said
+    ensures { λ r. ⌜ Says r (answerOf v) ⌝ }
+{
+    match v {
+        Advance::Accepted { hops } => say(0, hops),
+        Advance::StateBroken => say(2, 0),
+        Advance::NoSuchLength => say(4, 0),
+        Advance::WrongLength => say(7, 0),
+        Advance::RowDiffers { hops } => say(9, hops),
+        Advance::LinkDiffers { hops } => say(10, hops),
+        Advance::DigestDiffers { hops } => say(11, hops),
+    }
+}
