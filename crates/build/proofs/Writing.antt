@@ -19,7 +19,7 @@ use Rattle.rules.specs.Places.{place-mono}
 use Rattle.rules.specs.Stored.{body-length}
 use Rattle.rules.specs.Bounds.{total-first, total-after-step}
 use Rattle.lists.specs.Pasting.{paste-all, paste-more}
-use Rattle.store.specs.Linking.{linked-length}
+use Rattle.layout.specs.Linking.{linked-length}
 use Rattle.build.specs.Parts.{componentIn, membershipIn, advancementIn}
 
 -- All of a proof, pasted at the start, stands over what was there.

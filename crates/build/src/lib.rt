@@ -36,9 +36,9 @@ fn put_component(s: &[u8], j: Position, out: &mut [u8], to: usize)
     requires { ⌜ (1 ≤ j .0) × (place v1 (j .0) ≤ length (now s)) × (j .0 ≤ limit v1) × (to + size v1 (j .0) ≤ length (now out)) ⌝ }
     ensures { λ _. ⌜ now (out .exit) ≡ paste (now (out .entry)) to (componentIn hashOf v1 (now (s .entry)) (j .0)) (size v1 (j .0)) ⌝ }
 {
-    let d = store::layout::body_of(s, j);
+    let d = layout::body_of(s, j);
     lists::put(out, to, d, d.len());
-    store::layout::put_links(s, j, out, to + d.len());
+    layout::put_links(s, j, out, to + d.len());
 }
 
 // Writes the components on the path from i to n, without that of i, into out from index `at`.
@@ -122,7 +122,7 @@ fn basis_row(s: &[u8], at: Length, level: usize) -> Digest
     }
     let above = level + 1;
     let cleared = Length((at.0 >> above) << above);
-    store::layout::stored_digest(s, cleared)
+    layout::stored_digest(s, cleared)
 }
 
 // The rows of the state at a length.
@@ -158,12 +158,12 @@ pub fn held_at(store: &[u8], at: Length) -> HeldRead
             held: held::all_zeros(),
         };
     }
-    let digest = store::layout::stored_digest(store, at);
+    let digest = layout::stored_digest(store, at);
     let rows = basis_rows(store, at);
     HeldRead {
         found: Found::Done,
         held: Held {
-            log: store::layout::log_of(store),
+            log: layout::log_of(store),
             count: at,
             digest: digest,
             rows: rows,
