@@ -3,8 +3,8 @@ use mathlib.Core.Path.{_≡_}
 use mathlib.Core.List.{List}
 use Prim.Native.Nat.{ℕ}
 use lib.ListN.{length}
-use Rattle.sha256.specs.Sha256.{sha256}
-use Rattle.sha256.specs.Lengths.{sha256-length}
+use Rattle.fips.specs.Sha256.{sha256}
+use Rattle.fips.specs.Lengths.{sha256-length}
 
 unfoldable pub hashOf : List ℕ → List ℕ
 hashOf m = sha256 m

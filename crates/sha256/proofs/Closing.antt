@@ -6,10 +6,11 @@ use native.Mathlib.Omega.{arith}
 use lib.ListN.{length, take, set, replicate, length-append, length-replicate, replicate-append-replicate}
 use lib.Seq.{sets, length-sets}
 use Rattle.lists.specs.Laws.{take-replicate, sets-end, sets-append, sets-over}
-use Rattle.sha256.specs.Sha256.{Bytes, be64, padding, compress}
+use Rattle.lists.specs.Bytes.{Bytes, be}
+use Rattle.fips.specs.Sha256.{padding, compress}
 use Rattle.sha256.specs.Stream.{emptied, absorbed}
 use Rattle.sha256.specs.Runs.{zeros, absorbed-append, fills}
-use Rattle.sha256.specs.declared.Words.{Words}
+use Rattle.fips.specs.declared.Words.{Words}
 use Rattle.sha256.specs.declared.HashState.{HashState}
 
 -- the bit 1 and n zero bytes
@@ -44,12 +45,12 @@ counted b count f h lb lc =
     ∙ sym (sets-append (mark (55 - f)) count b f)
 
 module _ (s : HashState) (e : s .fill ≡ s .total % 64) (l : length (s .bytes) ≡ 64) where
-  padding-is : (z : ℕ) → (119 - s .fill) % 64 ≡ z → padding (s .total) ≡ mark z ++ be64 (s .total * 8)
+  padding-is : (z : ℕ) → (119 - s .fill) % 64 ≡ z → padding (s .total) ≡ mark z ++ be 8 (s .total * 8)
   unfolding padding
   padding-is z h = rw (← e, h)
 
   -- x is the block with the mark, y with the count too, and w the hash value after it
-  pub closed-short : (x y count : Bytes) (w : Words) → s .fill < 56 → count ≡ be64 (s .total * 8)
+  pub closed-short : (x y count : Bytes) (w : Words) → s .fill < 56 → count ≡ be 8 (s .total * 8)
       → x ≡ sets (s .bytes) (s .fill) (take (64 - s .fill - 0) (mark 63))
       → y ≡ sets x 56 count → w ≡ compress (s .words) y → w ≡ absorbed s (padding (s .total)) .words
   closed-short x y count w h ec ex ey ew =
@@ -66,7 +67,7 @@ module _ (s : HashState) (e : s .fill ≡ s .total % 64) (l : length (s .bytes) 
       ∙ sym (ap (λ (u : HashState). u .words) (ap (absorbed s) pad ∙ fills (mark (55 - f) ++ count) s (omega arith) (omega arith)))
 
   -- x is the block with the mark, y the one more with the count, v and w the hash values after them
-  pub closed-long : (x y count : Bytes) (v w : Words) → s .fill < 64 → 56 ≤ s .fill → count ≡ be64 (s .total * 8)
+  pub closed-long : (x y count : Bytes) (v w : Words) → s .fill < 64 → 56 ≤ s .fill → count ≡ be 8 (s .total * 8)
       → x ≡ sets (s .bytes) (s .fill) (take (64 - s .fill - 0) (mark 63))
       → y ≡ sets zeros 56 count → v ≡ compress (s .words) x → w ≡ compress v y → w ≡ absorbed s (padding (s .total)) .words
   closed-long x y count v w g h ec ex ey ev ew =

@@ -5,10 +5,11 @@ use native.Mathlib.Omega.{arith}
 use lib.ListN.{length, take, drop, length-drop}
 use lib.Seq.{sets, take-all}
 use Rattle.lists.specs.Laws.{sets-end}
-use Rattle.sha256.specs.Sha256.{Bytes, compress, chained}
+use Rattle.lists.specs.Bytes.{Bytes}
+use Rattle.fips.specs.Sha256.{compress, chained}
 use Rattle.sha256.specs.Stream.{emptied, absorbed}
 use Rattle.sha256.specs.Runs.{stateOf, zeros, within, run, over}
-use Rattle.sha256.specs.declared.Words.{Words}
+use Rattle.fips.specs.declared.Words.{Words}
 use Rattle.sha256.specs.declared.HashState.{HashState}
 
 -- one block further

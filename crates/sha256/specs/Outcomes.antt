@@ -6,7 +6,8 @@ use native.Mathlib.Omega.{arith}
 use borrow.Author.Tests.{le-ltb, lt-ltb, ltb-false, eq-eqb, ne-eqb, eqb-true}
 use lib.Dec.{ltb, eqb}
 use lib.ListN.{length, replicate}
-use Rattle.sha256.specs.Sha256.{Bytes, padding, bytesOf, sha256}
+use Rattle.lists.specs.Bytes.{Bytes}
+use Rattle.fips.specs.Sha256.{padding, bytesOf, sha256}
 use Rattle.sha256.specs.Stream.{limit, absorbed, broken, taken, finished, hashed}
 use Rattle.sha256.specs.declared.HashState.{HashState}
 use Rattle.sha256.specs.declared.Taken.{Taken}

@@ -6,7 +6,8 @@ use Prim.Native.Nat.{ℕ, _+_, _/_, _%_, _≤_, _<_}
 use native.Mathlib.Omega.{arith}
 use lib.Dec.{eqb}
 use lib.ListN.{length, length-append}
-use Rattle.sha256.specs.Sha256.{Bytes, H0, padding, padded, chained, bytesOf, sha256}
+use Rattle.lists.specs.Bytes.{Bytes}
+use Rattle.fips.specs.Sha256.{H0, padding, padded, chained, bytesOf, sha256}
 use Rattle.sha256.specs.Stream.{limit, begun, absorbed, broken, taken, finished, hashed}
 use Rattle.sha256.specs.Outcomes.{told, answered, sound, finished-sound, taken-fits, taken-long, hashed-fits}
 use Rattle.sha256.specs.Runs.{absorbed-append, run}

@@ -9,9 +9,10 @@ use borrow.Author.Tests.{eq-eqb, ne-eqb}
 use lib.ListN.{length, take, drop, set, replicate, length-drop, take-append-drop}
 use lib.Seq.{sets, take-add, length-take-le}
 use Rattle.lists.specs.Laws.{length-part, sets-end}
-use Rattle.sha256.specs.Sha256.{Bytes, block, compress, chained}
+use Rattle.lists.specs.Bytes.{Bytes}
+use Rattle.fips.specs.Sha256.{block, compress, chained}
 use Rattle.sha256.specs.Stream.{emptied, absorb, absorbed}
-use Rattle.sha256.specs.declared.Words.{Words}
+use Rattle.fips.specs.declared.Words.{Words}
 use Rattle.sha256.specs.declared.HashState.{HashState}
 
 -- taking is a fold: two runs, one after the other, are one run

@@ -4,8 +4,9 @@ use mathlib.Core.Bool.{Bool, cond, not, _||_}
 use mathlib.Core.List.{foldl}
 use lib.Dec.{ltb, eqb}
 use lib.ListN.{length, set, replicate}
-use Rattle.sha256.specs.Sha256.{Bytes, H0, compress, padding, bytesOf, sha256}
-use Rattle.sha256.specs.declared.Words.{Words}
+use Rattle.lists.specs.Bytes.{Bytes}
+use Rattle.fips.specs.Sha256.{H0, compress, padding, bytesOf, sha256}
+use Rattle.fips.specs.declared.Words.{Words}
 use Rattle.sha256.specs.declared.HashState.{HashState}
 use Rattle.sha256.specs.declared.Taken.{Taken}
 use Rattle.sha256.specs.declared.Hashed.{Hashed}

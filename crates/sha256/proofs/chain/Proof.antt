@@ -4,7 +4,7 @@ use Prim.Native.Nat.{_+_, _-_, _/_, _%_, _≤_}
 use native.Mathlib.Omega.{arith}
 use borrow.Author.Needs.{needs}
 use lib.ListN.{length}
-use Rattle.sha256.specs.Sha256.{chained}
+use Rattle.fips.specs.Sha256.{chained}
 use Rattle.sha256.proofs.Feeding.{chained-further, chained-whole}
 use Rattle.sha256.proofs.chain.Statement.{statement}
 use Rattle.sha256.proofs.chain.Tie as tie

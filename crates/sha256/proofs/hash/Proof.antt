@@ -2,7 +2,7 @@
 use mathlib.Core.Path.{_≡_, sym, ap, _∙_}
 use mathlib.Core.Bool.{false}
 use denote.Ref.{now}
-use Rattle.sha256.specs.Sha256.{bytesOf}
+use Rattle.fips.specs.Sha256.{bytesOf}
 use Rattle.sha256.specs.Stream.{emptied, begun, absorbed, broken, finished}
 use Rattle.sha256.specs.Outcomes.{answered, sound-facts, finished-sound, hashed-long, hashed-fits}
 use Rattle.sha256.specs.Pieces.{begun-sound, begun-finished}

@@ -7,11 +7,11 @@ use borrow.Author.Needs.{needs}
 use Rattle.sha256.proofs.HashState.closed.Statement.{statement}
 use Rattle.sha256.proofs.HashState.closed.Tie as tie
 
-mul-big-endian : tie.Need-mul-big-endian
-mul-big-endian c = search needs
+mul-bytes-of : tie.Need-mul-bytes-of
+mul-bytes-of c = search needs
 
-big-endian-requires : tie.Need-big-endian-requires
-big-endian-requires c κs = search needs
+bytes-of-requires : tie.Need-bytes-of-requires
+bytes-of-requires c κs = search needs
 
 sub-room : tie.Need-sub-room
 sub-room c = search needs
@@ -47,7 +47,7 @@ returns : tie.Need-returns
 returns c =
     let s = c .before .before .before .before .before .before .before .before .before .before .before .before in
     let l : length (s .args .self .bytes) ≡ 64 = search needs in
-    closed-short (s .args .self) (s .pre .0) l _ _ _ _ (c .before .before .before .before .if1 .taken) (c .before .before .before .before .before .before .before .before .big-endian .ensures) (c .before .before .before .before .before .put .ensures) (c .before .before .put2 .ensures) (c .compress .ensures)
+    closed-short (s .args .self) (s .pre .0) l _ _ _ _ (c .before .before .before .before .if1 .taken) (c .before .before .before .before .before .before .before .before .bytes-of .ensures) (c .before .before .before .before .before .put .ensures) (c .before .before .put2 .ensures) (c .compress .ensures)
 
 slice-aggregate-put-2 : tie.Need-slice-aggregate-put-2
 slice-aggregate-put-2 c = search needs
@@ -71,14 +71,14 @@ returns-2 : tie.Need-returns-2
 returns-2 c =
     let s = c .before .before .before .before .before .before .before .before .before .before .before .before .before .before in
     let l : length (s .args .self .bytes) ≡ 64 = search needs in
-    closed-long (s .args .self) (s .pre .0) l _ _ _ _ _ (omega arith) (c .before .before .before .before .before .before .if1 .left) (c .before .before .before .before .before .before .before .before .before .before .big-endian .ensures) (c .before .before .before .before .before .before .before .put .ensures) (c .before .before .before .before .put3 .ensures) (c .before .before .compress2 .ensures) (c .compress3 .ensures)
+    closed-long (s .args .self) (s .pre .0) l _ _ _ _ _ (omega arith) (c .before .before .before .before .before .before .if1 .left) (c .before .before .before .before .before .before .before .before .before .before .bytes-of .ensures) (c .before .before .before .before .before .before .before .put .ensures) (c .before .before .before .before .put3 .ensures) (c .before .before .compress2 .ensures) (c .compress3 .ensures)
 
 pub closed-spec : {M : Type 1} → statement M
 closed-spec =
     tie.close
     (tie.spec
-    mul-big-endian
-    big-endian-requires
+    mul-bytes-of
+    bytes-of-requires
     sub-room
     array-write-mark
     sub-put

@@ -1,7 +1,7 @@
 -- `HashState::finish` meets its contract: it makes the rule's test, and closes what is sound.
 use mathlib.Core.Path.{_≡_, sym, ap, _∙_}
 use mathlib.Core.Bool.{false}
-use Rattle.sha256.specs.Sha256.{bytesOf}
+use Rattle.fips.specs.Sha256.{bytesOf}
 use Rattle.sha256.specs.Stream.{broken}
 use Rattle.sha256.specs.Outcomes.{answered, sound-facts, finished-broken, finished-sound}
 use borrow.Author.Needs.{needs}

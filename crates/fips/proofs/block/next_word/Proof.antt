@@ -1,0 +1,27 @@
+-- `block::next_word` meets its contract: one more word of the schedule is stored.
+use native.Mathlib.Omega.{arith}
+use lib.ListN.{length-set}
+use Rattle.fips.proofs.Scheduling.{step-mix}
+use borrow.Author.Needs.{needs}
+use Rattle.fips.proofs.block.next_word.Statement.{statement}
+use Rattle.fips.proofs.block.next_word.Tie as tie
+
+later-requires : tie.Need-later-requires
+later-requires c κs = search needs
+
+mul-w : tie.Need-mul-w
+mul-w c = search needs
+
+element-write-w : tie.Need-element-write-w
+element-write-w c = search needs
+
+returns : tie.Need-returns
+returns c =
+    let s = c .before .before in
+    record {
+      size = simp length-set (s .pre .2);
+      words = λ m e. step-mix m _ (s .args .t) _ (s .pre .0) (omega arith) e (c .later .ensures);
+    }
+
+pub next-word-spec : {M : Type 1} → statement M
+next-word-spec = tie.close (tie.spec later-requires mul-w element-write-w returns)
