@@ -1,5 +1,5 @@
 -- Words laid into a digest: a word's four stores, and eight words one behind the other.
-use mathlib.Core.Path.{_≡_, ap, _∙_}
+use mathlib.Core.Path.{_≡_}
 use Prim.Native.Nat.{ℕ, suc, _+_, _/_, _%_}
 use native.Mathlib.Nat.{div-one}
 use native.Mathlib.Omega.{arith}

@@ -7,8 +7,8 @@ use native.Mathlib.Omega.{arith}
 use borrow.Author.Tests.{lt-ltb, le-ltb}
 use lib.ListN.{length, getD, take, set}
 use lib.Seq.{take-all}
-use Rattle.lists.specs.Laws.{take-stored, getD-known}
 use Rattle.lists.specs.Bytes.{Bytes}
+use Rattle.lists.specs.Laws.{take-stored, getD-known}
 use Rattle.fips.specs.Sha256.{K, word, mix, next, schedule, round, rounds, plus, compress}
 use Rattle.fips.specs.declared.Words.{Words}
 

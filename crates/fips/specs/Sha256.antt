@@ -52,7 +52,7 @@ K =
     0x748f82ee ∷ 0x78a5636f ∷ 0x84c87814 ∷ 0x8cc70208 ∷ 0x90befffa ∷ 0xa4506ceb ∷ 0xbef9a3f7 ∷ 0xc67178f2 ∷
     []
 
--- 3.1: the word that four bytes are, the first byte the highest. `be 4` of a word is its bytes
+-- 3.1: the word that four bytes are, the first byte the highest; back, a word's bytes are its `be 4`
 abbrev pub word : Bytes → ℕ → ℕ
 word m i = getD m i 0 * 2 ^ 24 + getD m (i + 1) 0 * 2 ^ 16 + getD m (i + 2) 0 * 2 ^ 8 + getD m (i + 3) 0
 

@@ -5,8 +5,8 @@ use Prim.Native.Nat.{ℕ, suc, _+_, _-_, _*_, _%_, _≤_, _<_}
 use native.Mathlib.Omega.{arith}
 use lib.ListN.{length, take, set, replicate, length-append, length-replicate, replicate-append-replicate}
 use lib.Seq.{sets, length-sets}
-use Rattle.lists.specs.Laws.{take-replicate, sets-end, sets-append, sets-over}
 use Rattle.lists.specs.Bytes.{Bytes, be}
+use Rattle.lists.specs.Laws.{take-replicate, sets-end, sets-append, sets-over}
 use Rattle.fips.specs.Sha256.{padding, compress}
 use Rattle.sha256.specs.Stream.{emptied, absorbed}
 use Rattle.sha256.specs.Runs.{zeros, absorbed-append, fills}

@@ -4,8 +4,8 @@ use Prim.Native.Nat.{ℕ, suc, _+_, _-_, _*_, _/_, _%_, _≤_, _<_}
 use native.Mathlib.Omega.{arith}
 use lib.ListN.{length, take, drop, length-drop}
 use lib.Seq.{sets, take-all}
-use Rattle.lists.specs.Laws.{sets-end}
 use Rattle.lists.specs.Bytes.{Bytes}
+use Rattle.lists.specs.Laws.{sets-end}
 use Rattle.fips.specs.Sha256.{compress, chained}
 use Rattle.sha256.specs.Stream.{emptied, absorbed}
 use Rattle.sha256.specs.Runs.{stateOf, zeros, within, run, over}

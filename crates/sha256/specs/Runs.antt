@@ -8,8 +8,8 @@ use native.Mathlib.Omega.{arith}
 use borrow.Author.Tests.{eq-eqb, ne-eqb}
 use lib.ListN.{length, take, drop, set, replicate, length-drop, take-append-drop}
 use lib.Seq.{sets, take-add, length-take-le}
-use Rattle.lists.specs.Laws.{length-part, sets-end}
 use Rattle.lists.specs.Bytes.{Bytes}
+use Rattle.lists.specs.Laws.{length-part, sets-end}
 use Rattle.fips.specs.Sha256.{block, compress, chained}
 use Rattle.sha256.specs.Stream.{emptied, absorb, absorbed}
 use Rattle.fips.specs.declared.Words.{Words}

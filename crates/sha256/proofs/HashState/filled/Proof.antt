@@ -1,8 +1,9 @@
 -- `HashState::filled` meets its contract: where nothing is held, the block is the bytes themselves.
-use mathlib.Core.Path.{_≡_}
+use mathlib.Core.Path.{_≡_, ap, _∙_}
 use native.Mathlib.Omega.{arith}
 use lib.ListN.{length}
 use denote.Ref.{now}
+use Rattle.fips.specs.Sha256.{compress}
 use Rattle.sha256.proofs.Feeding.{empty-filled}
 use borrow.Author.Needs.{needs}
 use Rattle.sha256.proofs.HashState.filled.Statement.{statement}
@@ -27,7 +28,7 @@ compress-requires-2 : tie.Need-compress-requires-2
 compress-requires-2 c κs = search needs
 
 returns-2 : tie.Need-returns-2
-returns-2 c = cc
+returns-2 c = c .compress2 .ensures ∙ ap (compress _) (c .before .before .put .ensures)
 
 pub filled-spec : {M : Type 1} → statement M
 filled-spec =
