@@ -1,2 +1,1 @@
-pub mod Spotting  -- what a spot says
 pub mod Judging  -- what the dispute answers, by its tests

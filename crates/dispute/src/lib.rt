@@ -1,5 +1,4 @@
 // Two accepted proofs that differ show a lie of the house: two different messages with one hash.
-mod place; // where two proofs differ
 mod show; // writing messages into buffers
 mod settle; // the dispute routine
 

@@ -6,13 +6,13 @@ ghost use Rattle.rules.specs.Dispute.{dispute as messagesOf};
 ghost use Rattle.rules.specs.Calls.{showing, disputeCall};
 ghost use Rattle.dispute.specs.Answers.{outcome};
 ghost use Rattle.dispute.specs.Ready.{Ready};
-use super::place::Spot;
-use super::place::find;
 use super::show::show_elements;
 use super::show::show_entries;
 use hash::Digest;
 use path::Length;
 use path::Position;
+use place::Spot;
+use place::find;
 
 // A buffer takes the longest message: that of the longest entry.
 const ROOM: usize = messages::ENTRY_LIMIT + 1;

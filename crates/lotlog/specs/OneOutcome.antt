@@ -30,9 +30,9 @@ use Rattle.build.specs.Promises as build
 use Rattle.checker.specs.Verdicts.{verdictOf, one-verdict}
 use Rattle.checker.specs.Advancing.{outcomeOf}
 use Rattle.checker.specs.Advances as checker
+use Rattle.place.specs.Places.{cut}
 use Rattle.dispute.specs.declared.settle.Answer.{Answer}
 use Rattle.dispute.specs.Answers.{outcome, one-answer}
-use Rattle.dispute.specs.Places.{cut}
 use Rattle.lotlog.specs.Exports.{telling, one-told, leaving, one-left, writing, one-wrote, showing, one-showed}
 use Rattle.lotlog.specs.Outcomes.{lotHash, lotStart, lotCount, lotAppend, lotDigestAt, lotAudit, lotHeldStart, lotHeldAt, lotBuildMembership, lotBuildAdvancement, lotCheckMembership, lotCheckAdvancement, lotDispute, lotDiffering}
 
@@ -97,6 +97,11 @@ checker-check-membership e i n D p = lossless verdictOf one-verdict (member hash
 pub checker-check-advancement : (h : Held) (n : Length) (D : Digest) (p : Bytes) → One outcomeOf (advanceCall hashOf v1 (holds h) (n .0) (D .bytes) p)
 checker-check-advancement = checker.advanced-one
 
+-- ---- place
+
+pub place-differing : (p q : Bytes) (i n : ℕ) → OneOf (cut (differing v1 i n p q) q)
+place-differing p q i n = one-of (cut (differing v1 i n p q) q)
+
 -- ---- dispute
 
 pub dispute-dispute : (e1 p1 e2 p2 : Bytes) (i n : ℕ) (D b1 b2 : Bytes)
@@ -106,9 +111,6 @@ dispute-dispute e1 p1 e2 p2 i n D b1 b2 =
     (λ x y e. ap₂ {C = Answer × Bytes × Bytes} (λ (a : Answer) (b : Bytes × Bytes). (a, b .0, b .1))
     (one-answer (x .0) (y .0) (ap (λ (o : Disputed). o .finding) e)) (ap (λ (o : Disputed). (o .first, o .second)) e))
     (disputeCall hashOf v1 e1 p1 e2 p2 i n D b1 b2)
-
-pub dispute-differing : (p q : Bytes) (i n : ℕ) → OneOf (cut (differing v1 i n p q) q)
-dispute-differing p q i n = one-of (cut (differing v1 i n p q) q)
 
 -- ---- the exports: the number returned, the numbers of `answer`, and lent memory
 

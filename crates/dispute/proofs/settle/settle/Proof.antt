@@ -12,8 +12,8 @@ use Rattle.rules.specs.Messages.{entryMsg}
 use Rattle.rules.specs.Dispute.{unlike, nearest, messages, dispute}
 use Rattle.rules.specs.Calls.{Disputed, showing}
 use Rattle.rules.specs.Spots.{dispute-is}
-use Rattle.dispute.specs.Places.{spotOf}
-use Rattle.dispute.proofs.Spotting.{nowhere, inside}
+use Rattle.place.specs.Places.{spotOf}
+use Rattle.place.proofs.Spotting.{nowhere, inside}
 use Rattle.dispute.proofs.settle.settle.Statement.{statement}
 use Rattle.dispute.proofs.settle.settle.Tie as tie
 

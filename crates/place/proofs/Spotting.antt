@@ -11,10 +11,10 @@ use Rattle.rules.specs.Paths.{path}
 use Rattle.rules.specs.Messages.{size, total}
 use Rattle.rules.specs.Dispute.{nearest}
 use Rattle.rules.specs.Spots.{nearest-inside}
-use Rattle.dispute.specs.Places.{spotOf}
-use Rattle.dispute.specs.declared.place.Spot.{Spot}
-use Rattle.dispute.specs.declared.place.Spot.the-variants.{Nowhere, At}
-use Rattle.dispute.proofs.place.Spot.{the-type}
+use Rattle.place.specs.Places.{spotOf}
+use Rattle.place.specs.declared.Spot.{Spot}
+use Rattle.place.specs.declared.Spot.the-variants.{Nowhere, At}
+use Rattle.place.proofs.Spot.{the-type}
 
 pub nowhere : (s : Spot) → tagOf the-type s ≡ 0 → spotOf s ≡ none
 nowhere Nowhere e = refl

@@ -14,9 +14,9 @@ use Rattle.rules.specs.Messages.{total}
 use Rattle.rules.specs.Checking.{between}
 use Rattle.rules.specs.Dispute.{Part as Place, nearest, partOf, differing}
 use Rattle.rules.specs.Spots.{nearest-inside, differing-is}
-use Rattle.dispute.specs.declared.place.Spot.{Spot}
-use Rattle.dispute.specs.declared.place.Spot.the-variants.{Nowhere, At}
-use Rattle.dispute.specs.declared.place.Part.{Part}
+use Rattle.place.specs.declared.Spot.{Spot}
+use Rattle.place.specs.declared.Spot.the-variants.{Nowhere, At}
+use Rattle.place.specs.declared.Part.{Part}
 
 abbrev pub spotOf : Spot → Option (ℕ × ℕ)
 spotOf Nowhere = none

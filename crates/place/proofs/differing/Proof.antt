@@ -1,4 +1,4 @@
--- `dispute::place::differing` meets its contract: the part stands inside the second proof, and is lent as it lies.
+-- `place::differing` meets its contract: the part stands inside the second proof, and is lent as it lies.
 use mathlib.Core.Path.{_≡_, ap, _∙_}
 use Prim.Native.Nat.{ℕ, _+_, _-_, _≤_}
 use native.Mathlib.Omega.{arith}
@@ -8,10 +8,10 @@ use denote.Ref.{now}
 use Rattle.lists.specs.Bytes.{Bytes}
 use Rattle.rules.specs.Numbers.{v1}
 use Rattle.rules.specs.Dispute.{Part as Place, differing}
-use Rattle.dispute.specs.Places.{partIs, cut, differing-inside}
-use Rattle.dispute.specs.declared.place.Part.{Part}
-use Rattle.dispute.proofs.place.differing.Statement.{statement}
-use Rattle.dispute.proofs.place.differing.Tie as tie
+use Rattle.place.specs.Places.{partIs, cut, differing-inside}
+use Rattle.place.specs.declared.Part.{Part}
+use Rattle.place.proofs.differing.Statement.{statement}
+use Rattle.place.proofs.differing.Tie as tie
 
 module _ (x : Part) (i n : ℕ) (p q : Bytes) (e : partIs x ≡ differing v1 i n p q) where
   inside : x .from + x .size ≤ length q

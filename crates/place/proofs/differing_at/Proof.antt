@@ -1,4 +1,4 @@
--- `dispute::place::differing_at` meets its contract: each return fixes the tests of the definition up to it.
+-- `place::differing_at` meets its contract: each return fixes the tests of the definition up to it.
 use mathlib.Core.Path.{_≡_, refl, sym, ap, _∙_}
 use mathlib.Core.Bool.{Bool, true, _&&_, cond}
 use mathlib.Core.Option.{Option, none}
@@ -15,10 +15,10 @@ use Rattle.rules.specs.Checking.{between}
 use Rattle.rules.specs.Dispute.{nearest, partOf, differing}
 use Rattle.rules.specs.Verdicts.{between-true}
 use Rattle.rules.specs.Spots.{differing-is}
-use Rattle.dispute.specs.Places.{spotOf}
-use Rattle.dispute.proofs.Spotting.{nowhere}
-use Rattle.dispute.proofs.place.differing_at.Statement.{statement}
-use Rattle.dispute.proofs.place.differing_at.Tie as tie
+use Rattle.place.specs.Places.{spotOf}
+use Rattle.place.proofs.Spotting.{nowhere}
+use Rattle.place.proofs.differing_at.Statement.{statement}
+use Rattle.place.proofs.differing_at.Tie as tie
 
 -- ---- what each passed test says, at the place behind it
 

@@ -1,4 +1,4 @@
--- `dispute::place::find` meets its contract: what differs further on goes before what was found so far.
+-- `place::find` meets its contract: what differs further on goes before what was found so far.
 use mathlib.Core.Path.{_≡_, sym, ap, ap₂, _∙_}
 use mathlib.Core.Option.{Option}
 use Prim.Native.Nat.{ℕ, _+_, _-_, _^_, _≤_, _<_}
@@ -16,9 +16,9 @@ use Rattle.rules.specs.Dispute.{orElse, nearest}
 use Rattle.rules.specs.Hops.{level-hop}
 use Rattle.rules.specs.Bounds.{total-first, total-after-step}
 use Rattle.rules.specs.Spots.{differsAt, nearest-start, nearest-step, nearest-end}
-use Rattle.dispute.specs.Places.{spotOf}
-use Rattle.dispute.proofs.place.find.Statement.{statement}
-use Rattle.dispute.proofs.place.find.Tie as tie
+use Rattle.place.specs.Places.{spotOf}
+use Rattle.place.proofs.find.Statement.{statement}
+use Rattle.place.proofs.find.Tie as tie
 
 -- s was found up to j; the components behind that of j begin at `at`
 record Seen (n : ℕ) (p q : Bytes) (i : ℕ) (s : Option (ℕ × ℕ)) (at j : ℕ) : Type 0 where

@@ -7,7 +7,7 @@ ghost use Rattle.rules.specs.Paths.{path};
 ghost use Rattle.rules.specs.Messages.{size, total};
 ghost use Rattle.rules.specs.Dispute.{orElse, nearest, differing as differingPart};
 ghost use Rattle.rules.specs.Spots.{differsAt};
-ghost use Rattle.dispute.specs.Places.{spotOf, partIs, cut};
+ghost use Rattle.place.specs.Places.{spotOf, partIs, cut};
 use messages::component_at;
 use path::Length;
 use path::Position;
@@ -48,7 +48,7 @@ fn either(a: Spot, b: Spot) -> Spot
 }
 
 // The difference nearest n of two proofs with the path's length: the walk goes from i to n, and a later one goes before an earlier.
-pub(crate) fn find(first: &[u8], second: &[u8], i: Position, n: Length) -> Spot
+pub fn find(first: &[u8], second: &[u8], i: Position, n: Length) -> Spot
     requires { ⌜ (i .0 ≤ n .0) × (length (now first) ≡ total v1 (path (i .0) (n .0))) × (length (now second) ≡ total v1 (path (i .0) (n .0))) ⌝ }
     ensures { λ r. ⌜ spotOf r ≡ nearest v1 (path (i .0) (n .0)) (now (first .entry)) (now (second .entry)) 0 ⌝ }
 {

@@ -1,4 +1,4 @@
--- `dispute::place::look` meets its contract: the parts compared are the components of j.
+-- `place::look` meets its contract: the parts compared are the components of j.
 use mathlib.Core.Path.{_≡_, sym, ap₂, _∙_}
 use mathlib.Core.Bool.{Bool}
 use Prim.Native.Nat.{ℕ}
@@ -9,8 +9,8 @@ use Rattle.rules.specs.Numbers.{v1}
 use Rattle.rules.specs.Messages.{part}
 use Rattle.rules.specs.Dispute.{unlike}
 use Rattle.rules.specs.Spots.{differsAt}
-use Rattle.dispute.proofs.place.look.Statement.{statement}
-use Rattle.dispute.proofs.place.look.Tie as tie
+use Rattle.place.proofs.look.Statement.{statement}
+use Rattle.place.proofs.look.Tie as tie
 
 compared : (p q : Bytes) (j at : ℕ) {x y : Bytes} {b t : Bool} → x ≡ part v1 p at j → y ≡ part v1 q at j → b ≡ same x y → b ≡ t → differsAt v1 p q j at ≡ unlike t (j, at)
 compared p q j at ex ey eb et = rw (sym (eb ∙ ap₂ same ex ey) ∙ et)

@@ -1,0 +1,1 @@
+pub mod Spotting  -- what a spot says

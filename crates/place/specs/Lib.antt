@@ -1,0 +1,1 @@
+pub mod Places  -- where two proofs differ
