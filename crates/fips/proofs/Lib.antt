@@ -1,2 +1,2 @@
-pub mod Scheduling
-pub mod Laying
+pub mod Scheduling  -- one more word, one more round
+pub mod Laying  -- words laid into a digest

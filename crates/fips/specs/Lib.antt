@@ -1,4 +1,4 @@
-pub mod Sha256
-pub mod Steps
-pub mod Lengths
-pub mod Vectors
+pub mod Sha256  -- FIPS 180-4, as it is written
+pub mod Steps  -- the schedule and the rounds, some at a time
+pub mod Lengths  -- how long a digest is, and a padded message
+pub mod Vectors  -- worked examples

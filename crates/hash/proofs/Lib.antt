@@ -1,1 +1,1 @@
-pub mod Joining
+pub mod Joining  -- two strings, one after the other

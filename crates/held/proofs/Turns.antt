@@ -10,7 +10,7 @@ use lib.ListN.{length, getD, set, take, drop, length-map, List·getD-map, drop-o
 use lib.Seq.{drop-cons, take-all, set-split, take-suc-set, drop-set-lt, append-snoc}
 use borrow.Author.Tests.{eq-eqb, ne-eqb}
 use Rattle.lists.specs.Bytes.{Bytes, same, zeros}
-use Rattle.lists.specs.Same.{same-true, same-false, same-eq, same-not}
+use Rattle.lists.specs.Same.{same-swap}
 use Rattle.hash.specs.declared.Digest.{Digest}
 use Rattle.rules.specs.Numbers.{v1}
 use Rattle.rules.specs.Paths.{tz}
@@ -50,13 +50,6 @@ pub rows-set : (rows : List Digest) (c : ℕ) (d : Digest) → rowsOf (set rows 
 rows-set [] c d = refl
 rows-set (r ∷ rows) zero d = refl
 rows-set (r ∷ rows) (suc c) d = ap (λ (l : List Bytes). bytesOf r ∷ l) (rows-set rows c d)
-
-same-swap : (a b : Bytes) → same a b ≡ same b a
-same-swap a b = go (same a b) refl
-  where
-    go : (t : Bool) → same a b ≡ t → t ≡ same b a
-    go true e = sym (same-eq b a (sym (same-true a b e)))
-    go false e = sym (same-not b a (λ f. same-false a b e (sym f)))
 
 -- ---- a turn
 

@@ -2,6 +2,7 @@
 use mathlib.Core.Path.{_≡_, sym, ap, _∙_}
 use mathlib.Core.List.{_++_}
 use Prim.Native.Nat.{ℕ, _+_, _-_, _≤_, _<_}
+use native.Mathlib.Decide.{decLt}
 use native.Mathlib.Omega.{arith}
 use lib.ListN.{length, getD, take, drop, length-drop, List·getD-append}
 use lib.Seq.{paste, ext-getD, getD-take, getD-drop, getD-append-add, length-paste, length-paste-head, length-take-le}
@@ -52,3 +53,35 @@ module _ (s : Bytes) (at : ℕ) (r : Bytes) (k : ℕ) (fits : at + k ≤ length 
 
   pub same-length : length (paste s at r k) ≡ length s
   same-length = length-paste s at r k fits enough
+
+-- ---- pasted twice at one place
+
+module _ (s : Bytes) (at : ℕ) (r q : Bytes) (k m : ℕ) (less : k ≤ m) (fits : at + m ≤ length s) (enough : k ≤ length r) (more : m ≤ length q) where
+  abbrev once : Bytes
+  once = paste s at r k
+
+  once-length : length once ≡ length s
+  once-length = same-length s at r k (omega arith) enough
+
+  once-fits : at + m ≤ length once
+  once-fits = omega (arith, once-length)
+
+  over-byte : (i : ℕ) → Dec (i < at) → Dec (i < at + m) → getD (paste once at q m) i 0 ≡ getD (paste s at q m) i 0
+  over-byte i (yes h) d =
+      before once at q m once-fits more i h ∙ before s at r k (omega arith) enough i h ∙ sym (before s at q m fits more i h)
+  over-byte i (no g) (yes h) =
+      let e : i ≡ at + (i - at) = omega arith in
+      ap (λ (x : ℕ). getD (paste once at q m) x 0) e
+      ∙ within once at q m once-fits more (i - at) (omega arith)
+      ∙ sym (within s at q m fits more (i - at) (omega arith))
+      ∙ ap (λ (x : ℕ). getD (paste s at q m) x 0) (sym e)
+  over-byte i (no g) (no h) =
+      behind once at q m once-fits more i (omega arith)
+      ∙ behind s at r k (omega arith) enough i (omega arith)
+      ∙ sym (behind s at q m fits more i (omega arith))
+
+  -- Bytes that are pasted over no more bytes at the same place are as if pasted over none.
+  pub paste-over : paste once at q m ≡ paste s at q m
+  paste-over =
+      ext-getD 0 (paste once at q m) (paste s at q m) (same-length once at q m once-fits more ∙ once-length ∙ sym (same-length s at q m fits more))
+      (λ i h. over-byte i (decLt i at) (decLt i (at + m)))

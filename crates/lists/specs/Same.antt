@@ -36,6 +36,13 @@ same-not a b n = go (same a b) refl
     go true e = absurd (n (same-true a b e))
     go false e = refl
 
+pub same-swap : (a b : Bytes) → same a b ≡ same b a
+same-swap a b = go (same a b) refl
+  where
+    go : (t : Bool) → same a b ≡ t → t ≡ same b a
+    go true e = sym (same-eq b a (sym (same-true a b e)))
+    go false e = sym (same-not b a (λ f. same-false a b e (sym f)))
+
 pub same-lengths : (a b : Bytes) → length a ≢ length b → same a b ≡ false
 same-lengths a b n = same-not a b (λ e. n (ap length e))
 

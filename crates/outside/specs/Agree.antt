@@ -3,7 +3,6 @@ use mathlib.Core.Path.{_≡_, refl}
 use mathlib.Core.Bool.{Bool, true, _&&_}
 use mathlib.Core.List.{List, [], _∷_, _++_}
 use Prim.Native.Nat.{ℕ}
-use lib.Bits.{bitXor}
 use lib.Count.{trailingZeros}
 use lib.ListN.{replicate}
 use Rattle.lists.specs.Bytes.{Bytes, same, numberFrom}
@@ -11,8 +10,8 @@ use Rattle.standin.specs.Hash.{hashOf, xored, xorRow}
 use Rattle.rules.specs.Numbers.{v1}
 use Rattle.rules.specs.Paths.{level, greatest, hops, hopsIn, path}
 use Rattle.rules.specs.Messages.{startMsg, entryMsg, elementMsg, links, bodyIn, digestIn, membershipProof, advancementProof}
-use Rattle.rules.specs.Store.{header, logOf, firstUnclosed, allOpen, damaged, bodyOf, tOf, opened, newRecord, lowestWrong}
-use Rattle.rules.specs.Held.{Held, basis, heldOf, heldStart, freeZero, inOrder}
+use Rattle.rules.specs.Store.{header, logOf, firstUnclosed, allOpen, damaged, tOf, opened, newRecord, lowestWrong}
+use Rattle.rules.specs.Held.{basis, heldOf, heldStart, freeZero, inOrder}
 use Rattle.rules.specs.Checking.{member, walk, advance, advanceWalk, agrees, carried}
 use Rattle.rules.specs.Calls.{startCall, countCall, appendCall, auditCall, heldCall, memberCall, advanceCall, buildCall, buildMembershipCall, buildAdvancementCall}
 use Rattle.outside.specs.Made as made

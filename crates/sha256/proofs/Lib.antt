@@ -1,2 +1,2 @@
-pub mod Feeding
-pub mod Closing
+pub mod Feeding  -- bytes fed to a state
+pub mod Closing  -- the padding, as it is written

@@ -1,4 +1,4 @@
--- `bytes_of` meets its contract: the words lie one behind the other and fill the digest.
+-- `fips::bytes_of` meets its contract: the words lie one behind the other and fill the digest.
 use Rattle.fips.proofs.Laying.{laid}
 use borrow.Author.Needs.{needs}
 use Rattle.fips.proofs.bytes_of.Statement.{statement}

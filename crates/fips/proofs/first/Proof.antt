@@ -1,4 +1,4 @@
--- `first` meets its contract: the words are FIPS's.
+-- `fips::first` meets its contract: the words are FIPS's.
 use mathlib.Core.Path.{refl}
 use Rattle.fips.specs.Sha256.{H0}
 use Rattle.fips.proofs.first.Statement.{statement}

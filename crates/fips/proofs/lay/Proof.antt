@@ -1,4 +1,4 @@
--- `lay` meets its contract: four stores, one place after another.
+-- `fips::lay` meets its contract: four stores, one place after another.
 use lib.ListN.{length-set}
 use denote.Ref.{now}
 use Rattle.fips.proofs.Laying.{stored}

@@ -1,4 +1,4 @@
--- `chain` meets its contract: with i bytes behind it, the hash value is that after i / 64 blocks.
+-- `sha256::chain` meets its contract: with i bytes behind it, the hash value is that after i / 64 blocks.
 use mathlib.Core.Path.{_≡_}
 use Prim.Native.Nat.{_+_, _-_, _/_, _%_, _≤_}
 use native.Mathlib.Omega.{arith}

@@ -1,4 +1,4 @@
--- `hash` meets its contract: it feeds a begun state and finishes it, and the theorems on pieces say that this gives FIPS's value.
+-- `sha256::hash` meets its contract: it feeds a begun state and finishes it, and the theorems on pieces say that this gives FIPS's value.
 use mathlib.Core.Path.{_≡_, sym, ap, _∙_}
 use mathlib.Core.Bool.{false}
 use denote.Ref.{now}

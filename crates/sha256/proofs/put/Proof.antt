@@ -1,4 +1,4 @@
--- `put` meets its contract: what is still to be stored falls by a byte with each turn.
+-- `sha256::put` meets its contract: what is still to be stored falls by a byte with each turn.
 use mathlib.Core.Path.{_≡_, sym, _∙_}
 use Prim.Native.Nat.{_+_, _-_, _≤_}
 use native.Mathlib.Nat.{add-zero}

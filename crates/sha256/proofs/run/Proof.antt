@@ -1,4 +1,4 @@
--- `run` meets its contract: the whole blocks are chained, and what is left of the bytes is all that is held.
+-- `sha256::run` meets its contract: the whole blocks are chained, and what is left of the bytes is all that is held.
 use denote.Ref.{now}
 use Rattle.sha256.proofs.Feeding.{ran}
 use borrow.Author.Needs.{needs}

@@ -1,7 +1,6 @@
 -- `crafted::forge::mend` is safe: the slice keeps its length, and the row stands inside it.
 use mathlib.Core.Path.{_≡_}
 use Prim.Native.Nat.{_+_, _-_, _≤_}
-use native.Mathlib.Omega.{arith}
 use lib.ListN.{length, length-set}
 use borrow.Author.Needs.{needs}
 use Rattle.crafted.proofs.forge.mend.Statement.{statement}

@@ -1,4 +1,4 @@
--- `block::compress` meets its contract: after t turns the words are those after t rounds.
+-- `fips::block::compress` meets its contract: after t turns the words are those after t rounds.
 use mathlib.Core.Path.{_≡_}
 use Prim.Native.Nat.{_≤_, _-_, _%_}
 use native.Mathlib.Omega.{arith}

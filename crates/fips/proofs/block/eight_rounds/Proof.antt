@@ -1,4 +1,4 @@
--- `block::eight_rounds` meets its contract: eight times one round more.
+-- `fips::block::eight_rounds` meets its contract: eight times one round more.
 use Rattle.fips.specs.Steps.{rounded-then}
 use borrow.Author.Needs.{needs}
 use Rattle.fips.proofs.block.eight_rounds.Statement.{statement}

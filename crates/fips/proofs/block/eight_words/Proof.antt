@@ -1,4 +1,4 @@
--- `block::eight_words` meets its contract: eight times one word more.
+-- `fips::block::eight_words` meets its contract: eight times one word more.
 use Rattle.fips.specs.Steps.{scheduled-then}
 use borrow.Author.Needs.{needs}
 use Rattle.fips.proofs.block.eight_words.Statement.{statement}

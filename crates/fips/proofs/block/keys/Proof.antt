@@ -1,4 +1,4 @@
--- `block::keys` meets its contract: the two tables are the same, word by word.
+-- `fips::block::keys` meets its contract: the two tables are the same, word by word.
 use mathlib.Core.Path.{refl}
 use Rattle.fips.specs.Sha256.{K}
 use Rattle.fips.proofs.block.keys.Statement.{statement}

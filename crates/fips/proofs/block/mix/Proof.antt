@@ -1,4 +1,4 @@
--- `block::mix` meets its contract: the sums are the contract's, one call after another.
+-- `fips::block::mix` meets its contract: the sums are the contract's, one call after another.
 use borrow.Author.Needs.{needs}
 use Rattle.fips.proofs.block.mix.Statement.{statement}
 use Rattle.fips.proofs.block.mix.Tie as tie

@@ -1,4 +1,4 @@
--- `block::next_round` meets its contract: the words and the constant of round t are read.
+-- `fips::block::next_round` meets its contract: the words and the constant of round t are read.
 use Rattle.fips.proofs.Scheduling.{one-round}
 use borrow.Author.Needs.{needs}
 use Rattle.fips.proofs.block.next_round.Statement.{statement}

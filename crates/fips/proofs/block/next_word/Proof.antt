@@ -1,4 +1,4 @@
--- `block::next_word` meets its contract: one more word of the schedule is stored.
+-- `fips::block::next_word` meets its contract: one more word of the schedule is stored.
 use native.Mathlib.Omega.{arith}
 use lib.ListN.{length-set}
 use Rattle.fips.proofs.Scheduling.{step-mix}

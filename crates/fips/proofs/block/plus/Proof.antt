@@ -1,4 +1,4 @@
--- `block::plus` meets its contract: eight sums.
+-- `fips::block::plus` meets its contract: eight sums.
 use borrow.Author.Needs.{needs}
 use Rattle.fips.proofs.block.plus.Statement.{statement}
 use Rattle.fips.proofs.block.plus.Tie as tie

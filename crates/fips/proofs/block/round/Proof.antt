@@ -1,4 +1,4 @@
--- `block::round` meets its contract: the sums are those of T1 and T2.
+-- `fips::block::round` meets its contract: the sums are those of T1 and T2.
 use borrow.Author.Needs.{needs}
 use Rattle.fips.specs.Sha256.{round, T1, T2}
 use Rattle.fips.proofs.block.round.Statement.{statement}

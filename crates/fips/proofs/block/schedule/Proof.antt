@@ -1,4 +1,4 @@
--- `block::schedule` meets its contract: each turn of a loop adds the schedule's next words.
+-- `fips::block::schedule` meets its contract: each turn of a loop adds the schedule's next words.
 use mathlib.Core.Path.{_≡_}
 use Prim.Native.Nat.{_≤_, _-_, _%_}
 use native.Mathlib.Omega.{arith}

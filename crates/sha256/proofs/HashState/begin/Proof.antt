@@ -1,4 +1,4 @@
--- `HashState::begin` meets its contract: no block is behind it, and it holds nothing.
+-- `sha256::HashState::begin` meets its contract: no block is behind it, and it holds nothing.
 use mathlib.Core.Path.{ap}
 use borrow.Author.Needs.{needs}
 use Rattle.fips.specs.declared.Words.{Words}

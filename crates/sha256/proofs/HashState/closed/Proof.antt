@@ -1,4 +1,4 @@
--- `HashState::closed` meets its contract: the bytes that it writes after those held are FIPS's padding.
+-- `sha256::HashState::closed` meets its contract: the bytes that it writes after those held are FIPS's padding.
 use mathlib.Core.Path.{_≡_}
 use native.Mathlib.Omega.{arith}
 use lib.ListN.{length}

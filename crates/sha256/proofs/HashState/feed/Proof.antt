@@ -1,4 +1,4 @@
--- `HashState::feed` meets its contract: the bytes stay within the block under way, or fill it and run on from the front of a block.
+-- `sha256::HashState::feed` meets its contract: the bytes stay within the block under way, or fill it and run on from the front of a block.
 use native.Mathlib.Omega.{arith}
 use denote.Ref.{now}
 use Rattle.sha256.proofs.Feeding.{fed-within, fed-over}

@@ -1,4 +1,4 @@
--- `HashState::filled` meets its contract: where nothing is held, the block is the bytes themselves.
+-- `sha256::HashState::filled` meets its contract: where nothing is held, the block is the bytes themselves.
 use mathlib.Core.Path.{_≡_, ap, _∙_}
 use native.Mathlib.Omega.{arith}
 use lib.ListN.{length}

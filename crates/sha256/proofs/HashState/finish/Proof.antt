@@ -1,4 +1,4 @@
--- `HashState::finish` meets its contract: it makes the rule's test, and closes what is sound.
+-- `sha256::HashState::finish` meets its contract: it makes the rule's test, and closes what is sound.
 use mathlib.Core.Path.{_≡_, sym, ap, _∙_}
 use mathlib.Core.Bool.{false}
 use Rattle.fips.specs.Sha256.{bytesOf}

@@ -1,4 +1,4 @@
--- `HashState::is_broken` meets its contract: it makes the rule's two tests.
+-- `sha256::HashState::is_broken` meets its contract: it makes the rule's two tests.
 use mathlib.Core.Path.{sym}
 use Rattle.sha256.specs.Outcomes.{broken-fill, broken-total}
 use Rattle.sha256.proofs.HashState.is_broken.Statement.{statement}

@@ -1,4 +1,4 @@
--- `HashState::take` meets its contract: it makes the rule's tests in the rule's order.
+-- `sha256::HashState::take` meets its contract: it makes the rule's tests in the rule's order.
 use mathlib.Core.Path.{_≡_, sym, ap, _∙_}
 use mathlib.Core.Bool.{false}
 use native.Mathlib.Omega.{arith}
