@@ -1,3 +1,2 @@
 pub mod Writing  -- proofs, written component by component
 pub mod Asking  -- the numbers that a store has a proof for
-pub mod Filling  -- the rows of a state, filled from the first up

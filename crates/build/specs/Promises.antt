@@ -20,10 +20,11 @@ use Rattle.rules.specs.Built.{taken, membership-built, advancement-built, built
 use Rattle.held.specs.Holding.{holds}
 use Rattle.store.specs.Told.{readTold}
 use Rattle.store.specs.declared.Read.{Read}
-use Rattle.build.specs.Told.{builtTold, builtFrom, built-back, heldTold, readFrom, read-back}
+use Rattle.basis.specs.Told.{heldTold}
+use Rattle.basis.specs.declared.HeldRead.{HeldRead}
+use Rattle.build.specs.Told.{builtTold, builtFrom, built-back}
 use Rattle.build.specs.declared.Built.{Built}
 use Rattle.build.specs.declared.Built.the-variants.{Written}
-use Rattle.build.specs.declared.HeldRead.{HeldRead}
 
 -- ---- one outcome for each call
 
@@ -39,9 +40,6 @@ membership-one s i n out = one-written (buildMembershipCall hashOf v1 s i n out)
 
 pub advancement-one : (s : Bytes) (i n : ℕ) (out : Bytes) → One outcome (buildAdvancementCall hashOf v1 s i n out)
 advancement-one s i n out = one-written (buildAdvancementCall hashOf v1 s i n out)
-
-pub held-one : (s : Bytes) (at : ℕ) → One heldTold (heldCall hashOf v1 s at)
-held-one s at = one-outcome heldTold readFrom read-back (heldCall hashOf v1 s at)
 
 -- ---- demand 2, for a store s that passes the audit with c elements; o is the output after the call, and d what `digest_at` reads at n
 

@@ -1,7 +1,4 @@
 // What a practice does with what the house sends: it checks that an entry is an element of the log, and that the log it holds a state of has gone on.
-mod advancement; // checking an advancement
-mod membership; // checking membership
-
 pub use advancement::Advance;
 pub use advancement::Advanced;
 pub use advancement::check_advancement;

@@ -11,7 +11,7 @@ use path::Position;
 
 // What the checker says of a proof.
 fn check(entry: &[u8], proof: &[u8], i: Position, n: Length, digest: Digest) {
-    say::verdict(checker::check_membership(entry, i, n, digest, proof));
+    say::verdict(membership::check_membership(entry, i, n, digest, proof));
 }
 
 // The differing part of two proofs.

@@ -1,7 +1,7 @@
 // What the program writes of a case.
-use checker::Verdict;
 use dispute::Answer;
 use libc::STDOUT_FILENO;
+use membership::Verdict;
 
 pub(crate) fn text(t: &[u8]) {
     io::write_all(STDOUT_FILENO, t);

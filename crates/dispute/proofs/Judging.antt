@@ -13,8 +13,8 @@ use Rattle.rules.specs.Calls.{Disputed, showing, bothAccepted, disputeCall}
 use Rattle.rules.specs.Verdicts.{accepted-some, between-true}
 use Rattle.rules.specs.Acceptance.{accepts}
 use Rattle.rules.specs.Spots as spots
-use Rattle.checker.specs.Verdicts.{verdictOf}
-use Rattle.checker.specs.declared.membership.Verdict.{Verdict as Found}
+use Rattle.membership.specs.Verdicts.{verdictOf}
+use Rattle.membership.specs.declared.Verdict.{Verdict as Found}
 use Rattle.dispute.specs.Answers.{findingOf, outcome}
 use Rattle.dispute.specs.Ready.{Ready}
 use Rattle.dispute.specs.declared.settle.Answer.{Answer}

@@ -14,8 +14,8 @@ use Rattle.rules.specs.Dispute.{messageRoom, roomy}
 use Rattle.rules.specs.Calls.{disputeCall}
 use Rattle.rules.specs.Settled.{Clash}
 use Rattle.rules.specs.Shown as Rules
-use Rattle.checker.specs.Verdicts.{verdictOf}
-use Rattle.checker.specs.declared.membership.Verdict.the-variants.{Accepted}
+use Rattle.membership.specs.Verdicts.{verdictOf}
+use Rattle.membership.specs.declared.Verdict.the-variants.{Accepted}
 use Rattle.dispute.specs.Answers.{findingOf, outcome, one-answer}
 use Rattle.dispute.specs.declared.settle.Answer.{Answer}
 use Rattle.dispute.specs.declared.settle.Answer.the-variants.{Same, Shown}

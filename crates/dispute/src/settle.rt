@@ -66,12 +66,12 @@ pub fn dispute(
     if out2.len() < ROOM {
         return Answer::BufferShort;
     }
-    let one = checker::check_membership(entry1, i, n, digest, proof1);
-    if !checker::is_accepted(one) {
+    let one = membership::check_membership(entry1, i, n, digest, proof1);
+    if !membership::is_accepted(one) {
         return Answer::NotAccepted { which: 1 };
     }
-    let two = checker::check_membership(entry2, i, n, digest, proof2);
-    if !checker::is_accepted(two) {
+    let two = membership::check_membership(entry2, i, n, digest, proof2);
+    if !membership::is_accepted(two) {
         return Answer::NotAccepted { which: 2 };
     }
     settle(entry1, proof1, entry2, proof2, i, n, out1, out2)

@@ -1,9 +1,9 @@
 // Runs document 01's figures that are not shown as theorems, a line each: what was asked, and what the calls answer.
 ghost use Prim.Native.Nat.{_≤_};
 use audit::Audited;
-use checker::Verdict;
 use hash::Digest;
 use libc::STDOUT_FILENO;
+use membership::Verdict;
 use path::Length;
 use path::Position;
 use store::Appended;
@@ -65,7 +65,7 @@ fn number_of(v: Verdict) -> u64 {
 
 // "Length 1,048,576: 4."
 fn over_the_limit() {
-    let v = checker::check_membership(
+    let v = membership::check_membership(
         b"",
         Position(1),
         Length(1_048_576),

@@ -24,12 +24,14 @@ use Rattle.audit.specs.Told.{auditTold}
 use Rattle.audit.specs.Promises as audit
 use Rattle.held.specs.declared.Held.{Held}
 use Rattle.held.specs.Holding.{holds, held-one}
+use Rattle.basis.specs.Told.{heldTold}
+use Rattle.basis.specs.Told as basis
 use Rattle.build.specs.declared.Built.{Built}
-use Rattle.build.specs.Told.{builtTold, heldTold}
+use Rattle.build.specs.Told.{builtTold}
 use Rattle.build.specs.Promises as build
-use Rattle.checker.specs.Verdicts.{verdictOf, one-verdict}
-use Rattle.checker.specs.Advancing.{outcomeOf}
-use Rattle.checker.specs.Advances as checker
+use Rattle.membership.specs.Verdicts.{verdictOf, one-verdict}
+use Rattle.advancement.specs.Advancing.{outcomeOf}
+use Rattle.advancement.specs.Advances as advancement
 use Rattle.place.specs.Places.{cut}
 use Rattle.dispute.specs.declared.settle.Answer.{Answer}
 use Rattle.dispute.specs.Answers.{outcome, one-answer}
@@ -78,10 +80,12 @@ audit-audit = audit.audit-one
 pub held-start : (log : ℕ) → One holds (heldStart hashOf v1 log)
 held-start log = held-one (heldStart hashOf v1 log)
 
--- ---- build
+-- ---- basis
 
-pub build-held-at : (s : Bytes) (at : ℕ) → One heldTold (heldCall hashOf v1 s at)
-build-held-at = build.held-one
+pub basis-held-at : (s : Bytes) (at : ℕ) → One heldTold (heldCall hashOf v1 s at)
+basis-held-at = basis.held-one
+
+-- ---- build
 
 pub build-membership : (s : Bytes) (i n : ℕ) (out : Bytes) → One (λ (x : Built × Bytes). written (builtTold (x .0)) (x .1)) (buildMembershipCall hashOf v1 s i n out)
 build-membership = build.membership-one
@@ -89,13 +93,13 @@ build-membership = build.membership-one
 pub build-advancement : (s : Bytes) (i n : ℕ) (out : Bytes) → One (λ (x : Built × Bytes). written (builtTold (x .0)) (x .1)) (buildAdvancementCall hashOf v1 s i n out)
 build-advancement = build.advancement-one
 
--- ---- checker
+-- ---- membership and advancement
 
-pub checker-check-membership : (e : Bytes) (i n : ℕ) (D p : Bytes) → One verdictOf (member hashOf v1 e i n D p)
-checker-check-membership e i n D p = lossless verdictOf one-verdict (member hashOf v1 e i n D p)
+pub membership-check-membership : (e : Bytes) (i n : ℕ) (D p : Bytes) → One verdictOf (member hashOf v1 e i n D p)
+membership-check-membership e i n D p = lossless verdictOf one-verdict (member hashOf v1 e i n D p)
 
-pub checker-check-advancement : (h : Held) (n : Length) (D : Digest) (p : Bytes) → One outcomeOf (advanceCall hashOf v1 (holds h) (n .0) (D .bytes) p)
-checker-check-advancement = checker.advanced-one
+pub advancement-check-advancement : (h : Held) (n : Length) (D : Digest) (p : Bytes) → One outcomeOf (advanceCall hashOf v1 (holds h) (n .0) (D .bytes) p)
+advancement-check-advancement = advancement.advanced-one
 
 -- ---- place
 

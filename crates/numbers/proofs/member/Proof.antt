@@ -1,6 +1,6 @@
 -- `numbers::member` meets its contract: each verdict has the number and the hops that 01 gives it.
 use borrow.Author.Needs.{needs}
-use Rattle.checker.specs.Verdicts.{verdictOf}
+use Rattle.membership.specs.Verdicts.{verdictOf}
 use Rattle.numbers.proofs.member.Statement.{statement}
 use Rattle.numbers.proofs.member.Tie as tie
 

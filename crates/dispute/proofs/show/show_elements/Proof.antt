@@ -12,7 +12,7 @@ use Rattle.rules.specs.Numbers.{v1}
 use Rattle.rules.specs.Messages.{elementHead, elementMsg, size, part}
 use Rattle.rules.specs.Dispute.{messages, messageRoom}
 use Rattle.rules.specs.Calls.{Disputed, showing}
-use Rattle.checker.specs.Parts.{size-short}
+use Rattle.messages.specs.Parts.{size-short}
 use Rattle.dispute.proofs.show.show_elements.Statement.{statement}
 use Rattle.dispute.proofs.show.show_elements.Tie as tie
 

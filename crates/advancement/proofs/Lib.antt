@@ -1,0 +1,1 @@
+pub mod Advancing  -- the walk of an advancement

@@ -1,0 +1,1 @@
+pub mod Walking  -- the walk of a membership proof

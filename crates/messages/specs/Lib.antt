@@ -1,0 +1,1 @@
+pub mod Parts  -- the component that stands in a proof
