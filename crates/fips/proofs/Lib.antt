@@ -1,2 +1,1 @@
-pub mod Scheduling  -- one more word, one more round
 pub mod Laying  -- words laid into a digest

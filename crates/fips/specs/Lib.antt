@@ -1,4 +1,3 @@
 pub mod Sha256  -- FIPS 180-4, as it is written
-pub mod Steps  -- the schedule and the rounds, some at a time
 pub mod Lengths  -- how long a digest is, and a padded message
 pub mod Vectors  -- worked examples

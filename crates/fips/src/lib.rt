@@ -1,14 +1,10 @@
-// FIPS 180-4 as it is written, and in code the hash value: the first one, the next after one more block, and its bytes, which are the digest.
+// FIPS 180-4 as it is written, and in code the hash value: the first one, and the bytes of the last, which are the digest.
 ghost use mathlib.Core.Path.{_≡_};
 ghost use Prim.Native.Nat.{_+_, _≤_};
 ghost use lib.ListN.{length};
 ghost use lib.Seq.{sets};
 ghost use Rattle.lists.specs.Bytes.{be};
 ghost use Rattle.fips.specs.Sha256 as Fips;
-
-mod block; // one block
-
-pub use block::compress;
 
 // The eight words of a hash value.
 pub struct Words {

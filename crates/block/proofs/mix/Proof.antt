@@ -1,7 +1,7 @@
--- `fips::block::mix` meets its contract: the sums are the contract's, one call after another.
+-- `block::mix` meets its contract: the sums are the contract's, one call after another.
 use borrow.Author.Needs.{needs}
-use Rattle.fips.proofs.block.mix.Statement.{statement}
-use Rattle.fips.proofs.block.mix.Tie as tie
+use Rattle.block.proofs.mix.Statement.{statement}
+use Rattle.block.proofs.mix.Tie as tie
 
 small1-requires : tie.Need-small1-requires
 small1-requires c κs = search needs

@@ -1,7 +1,7 @@
--- `fips::block::plus` meets its contract: eight sums.
+-- `block::plus` meets its contract: eight sums.
 use borrow.Author.Needs.{needs}
-use Rattle.fips.proofs.block.plus.Statement.{statement}
-use Rattle.fips.proofs.block.plus.Tie as tie
+use Rattle.block.proofs.plus.Statement.{statement}
+use Rattle.block.proofs.plus.Tie as tie
 
 wrapping-add-u32-requires : tie.Need-wrapping-add-u32-requires
 wrapping-add-u32-requires c κs = search needs

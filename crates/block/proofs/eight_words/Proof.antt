@@ -1,8 +1,8 @@
--- `fips::block::eight_words` meets its contract: eight times one word more.
-use Rattle.fips.specs.Steps.{scheduled-then}
+-- `block::eight_words` meets its contract: eight times one word more.
+use Rattle.block.specs.Steps.{scheduled-then}
 use borrow.Author.Needs.{needs}
-use Rattle.fips.proofs.block.eight_words.Statement.{statement}
-use Rattle.fips.proofs.block.eight_words.Tie as tie
+use Rattle.block.proofs.eight_words.Statement.{statement}
+use Rattle.block.proofs.eight_words.Tie as tie
 
 next-word-requires : tie.Need-next-word-requires
 next-word-requires c κs = search needs

@@ -1,8 +1,8 @@
--- `fips::block::round` meets its contract: the sums are those of T1 and T2.
+-- `block::round` meets its contract: the sums are those of T1 and T2.
 use borrow.Author.Needs.{needs}
 use Rattle.fips.specs.Sha256.{round, T1, T2}
-use Rattle.fips.proofs.block.round.Statement.{statement}
-use Rattle.fips.proofs.block.round.Tie as tie
+use Rattle.block.proofs.round.Statement.{statement}
+use Rattle.block.proofs.round.Tie as tie
 
 big1-requires : tie.Need-big1-requires
 big1-requires c κs = search needs

@@ -1,12 +1,12 @@
--- `fips::block::compress` meets its contract: after t turns the words are those after t rounds.
+-- `block::compress` meets its contract: after t turns the words are those after t rounds.
 use mathlib.Core.Path.{_≡_}
 use Prim.Native.Nat.{_≤_, _-_, _%_}
 use native.Mathlib.Omega.{arith}
 use borrow.Author.Needs.{needs}
 use Rattle.fips.specs.Sha256.{rounds}
-use Rattle.fips.proofs.Scheduling.{compressed}
-use Rattle.fips.proofs.block.compress.Statement.{statement}
-use Rattle.fips.proofs.block.compress.Tie as tie
+use Rattle.block.proofs.Scheduling.{compressed}
+use Rattle.block.proofs.compress.Statement.{statement}
+use Rattle.block.proofs.compress.Tie as tie
 
 abbrev Inv-loop : tie.InvT-loop
 Inv-loop s block k w v₀ t₀ v t = (t ≤ 64) × (t % 8 ≡ 0) × (v ≡ rounds t w s)

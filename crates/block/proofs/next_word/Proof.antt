@@ -1,10 +1,10 @@
--- `fips::block::next_word` meets its contract: one more word of the schedule is stored.
+-- `block::next_word` meets its contract: one more word of the schedule is stored.
 use native.Mathlib.Omega.{arith}
 use lib.ListN.{length-set}
-use Rattle.fips.proofs.Scheduling.{step-mix}
+use Rattle.block.proofs.Scheduling.{step-mix}
 use borrow.Author.Needs.{needs}
-use Rattle.fips.proofs.block.next_word.Statement.{statement}
-use Rattle.fips.proofs.block.next_word.Tie as tie
+use Rattle.block.proofs.next_word.Statement.{statement}
+use Rattle.block.proofs.next_word.Tie as tie
 
 later-requires : tie.Need-later-requires
 later-requires c κs = search needs

@@ -1,8 +1,8 @@
--- `fips::block::next_round` meets its contract: the words and the constant of round t are read.
-use Rattle.fips.proofs.Scheduling.{one-round}
+-- `block::next_round` meets its contract: the words and the constant of round t are read.
+use Rattle.block.proofs.Scheduling.{one-round}
 use borrow.Author.Needs.{needs}
-use Rattle.fips.proofs.block.next_round.Statement.{statement}
-use Rattle.fips.proofs.block.next_round.Tie as tie
+use Rattle.block.proofs.next_round.Statement.{statement}
+use Rattle.block.proofs.next_round.Tie as tie
 
 mul-round : tie.Need-mul-round
 mul-round c = search needs

@@ -1,13 +1,13 @@
--- `fips::block::schedule` meets its contract: each turn of a loop adds the schedule's next words.
+-- `block::schedule` meets its contract: each turn of a loop adds the schedule's next words.
 use mathlib.Core.Path.{_≡_}
 use Prim.Native.Nat.{_≤_, _-_, _%_}
 use native.Mathlib.Omega.{arith}
 use borrow.Author.Needs.{needs}
 use lib.ListN.{length, take, length-set}
 use Rattle.fips.specs.Sha256.{schedule}
-use Rattle.fips.proofs.Scheduling.{step-load, whole}
-use Rattle.fips.proofs.block.schedule.Statement.{statement}
-use Rattle.fips.proofs.block.schedule.Tie as tie
+use Rattle.block.proofs.Scheduling.{step-load, whole}
+use Rattle.block.proofs.schedule.Statement.{statement}
+use Rattle.block.proofs.schedule.Tie as tie
 
 abbrev Inv-loop : tie.InvT-loop
 Inv-loop block w₀ t₀ w t = (t ≤ 16) × (length w ≡ 64) × (take t w ≡ schedule t block)

@@ -1,8 +1,8 @@
--- `fips::block::eight_rounds` meets its contract: eight times one round more.
-use Rattle.fips.specs.Steps.{rounded-then}
+-- `block::eight_rounds` meets its contract: eight times one round more.
+use Rattle.block.specs.Steps.{rounded-then}
 use borrow.Author.Needs.{needs}
-use Rattle.fips.proofs.block.eight_rounds.Statement.{statement}
-use Rattle.fips.proofs.block.eight_rounds.Tie as tie
+use Rattle.block.proofs.eight_rounds.Statement.{statement}
+use Rattle.block.proofs.eight_rounds.Tie as tie
 
 next-round-requires : tie.Need-next-round-requires
 next-round-requires c κs = search needs

@@ -2,9 +2,9 @@
 ghost use mathlib.Core.Path.{_≡_};
 ghost use Prim.Native.Nat.{_+_, _-_, _<_, _≤_};
 ghost use lib.ListN.{length, getD};
 ghost use Rattle.fips.specs.Sha256 as Fips;
-ghost use Rattle.fips.specs.Steps.{Scheduled, Rounded};
-use crate::Words;
+ghost use Rattle.block.specs.Steps.{Scheduled, Rounded};
+use fips::Words;
 use std::num::wrapping_add_u32;
 
 // FIPS 180-4, 4.2.2.

@@ -1,0 +1,1 @@
+pub mod Scheduling  -- one more word, one more round

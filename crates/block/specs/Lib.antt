@@ -1,0 +1,1 @@
+pub mod Steps  -- the schedule and the rounds, some at a time
