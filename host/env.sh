@@ -12,16 +12,19 @@ library=lotlog
 archive=$build/lib$library.a
 programs=(lot_audit)
 
+# Flags of the Rust compiler, `cc` for C, and `tools` before the names of those that read and change archives.
 rust_flags=(--edition 2021 -C opt-level=3 -C target-cpu=x86-64 -L "$build")
 
 if [ "$(uname -m)" = x86_64 ]; then
     rustc=${RUSTC:-rustc}
     cc=cc
+    tools=
     emulator=()
 else
     # the packaged compiler, which finds the packaged standard library for x86-64
     rustc=${RUSTC:-/usr/bin/rustc}
     cc=x86_64-linux-gnu-gcc
+    tools=x86_64-linux-gnu-
     emulator=(qemu-x86_64)
     rust_flags+=(--target x86_64-unknown-linux-gnu -C linker="$cc"
         -C target-feature=+crt-static -C relocation-model=static)

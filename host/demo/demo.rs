@@ -9,15 +9,12 @@
 use std::path::PathBuf;
 use std::{env, fs, process};
 
-use lotlog::{Answer, Digest, Held, Side};
+use lotlog::{meaning, store_bytes, Answer, Digest, Held, Side, WHOLE};
 
 const LOG: u64 = 7;
-const HEADER: usize = 16;
-const RECORD: usize = 65;
 const ROOM: usize = 16;
 
-/// The stores of a whole append, the last of which closes the record; and those of one that is cut.
-const WHOLE: u64 = 65;
+/// The stores of an append that is cut.
 const CUT: u64 = 40;
 
 /// A lot in the log.
@@ -46,19 +43,6 @@ impl Files {
     }
 }
 
-/// Document 01's words for the numbers of this story.
-fn meaning(number: u64) -> &'static str {
-    match number {
-        0 => "done",
-        7 => "proof length not that of the path",
-        8 => "first d is not the entry's",
-        10 => "link differs",
-        11 => "last digest differs",
-        12 => "wrong T",
-        _ => "refused",
-    }
-}
-
 /// Tells a call and its answer, and ends the story where that is not the expected one.
 fn tell(call: &str, answer: Answer, expected: [u64; 2], said: &str) {
     println!("  {:<46}{:>2} {}{}", call, answer.number, meaning(answer.number), said);
@@ -81,7 +65,7 @@ fn tell_done(call: &str, number: u64, said: &str) {
 
 /// The house starts its log.
 fn start(files: &Files) {
-    let mut store = vec![0xEE; HEADER + RECORD * ROOM];
+    let mut store = vec![0xEE; store_bytes(ROOM)];
     tell_done("start", lotlog::start(&mut store, LOG), "");
     files.write("store.lot", &store);
 }
@@ -186,7 +170,7 @@ fn refusals(files: &Files, notice: Lot, other: &[u8], n: u64) {
 /// An audit of the store with one byte of a record changed.
 fn audit_changed(files: &Files, lot: Lot) {
     let mut store = files.read("store.lot");
-    store[HEADER + RECORD * (lot.position as usize - 1)] ^= 1;
+    store[store_bytes(lot.position as usize - 1)] ^= 1;
     let call = format!("audit, a byte of lot {} changed", lot.position);
     tell_named(&call, lotlog::audit(&store), [12, lot.position], "element");
 }

@@ -1,8 +1,9 @@
 /*
  * lotlog.h: the calls of the proved lot log, for C and for every language that calls C.
  *
- * Link the archive that `rt staticlib lotlog` writes. It is for x86-64 Linux and needs no other
- * library. No call allocates, keeps a pointer or touches anything but what it is lent.
+ * Link the archive that `rt staticlib lotlog` writes; README has the line. It is for x86-64 Linux and
+ * needs memcpy, memmove and memset, from the C library or of your own, and nothing else. No call
+ * allocates, keeps a pointer or touches anything but what it is lent.
  *
  * Every call returns a number of document 01: 0 for done, else the refusal.
  *
@@ -24,9 +25,15 @@
  * `answer` is no lent memory in that sense: it is written whole by each call that takes it, with 0
  * where nothing is to be said.
  *
- * A caller must see to three things that C does not check: a pointer with a length n is good for n
- * bytes, also where n is 0 (then any pointer but NULL will do); a `uint8_t x[32]` is good for 32
- * bytes; and memory that a call may write is not lent to it twice.
+ * Pointers. A pointer with a length n must be good for n bytes; with length 0 any pointer will do, NULL
+ * too. Every other NULL is the caller's fault and is not noticed: a digest, a held state or `answer`
+ * that is NULL, or NULL with another length. A `uint8_t x[32]` must be good for 32 bytes, `answer` for
+ * 24. Memory that a call may write must not be lent to it twice. No pointer need be aligned, `answer`
+ * neither.
+ *
+ * Numbers. Positions count from 1: the first lot is element 1 of the log, and it stands in record 0 of
+ * the store. Length 0 is the log before its first lot. The store holds no entries, only their digests:
+ * keep each entry yourself, since checking and disputing take it again.
  *
  * Layouts, all numbers big-endian:
  *   store       16 bytes: "LOT", version 1 (2), three zero bytes, log number (8);
@@ -49,11 +56,18 @@ extern "C" {
 #define LOT_DIGEST_BYTES 32
 #define LOT_HELD_BYTES 688
 #define LOT_ANSWER_NUMBERS 3
+#define LOT_HEADER_BYTES 16
+#define LOT_RECORD_BYTES 65
 #define LOT_ENTRY_MOST 4096       /* the longest entry, in bytes */
 #define LOT_HASH_MOST 65536       /* the longest message of lot_hash, in bytes */
 #define LOT_ELEMENTS_MOST 1048575 /* the most elements of a log */
 #define LOT_PROOF_MOST 14048      /* the longest proof, in bytes */
 #define LOT_DISPUTE_LEAST 4097    /* the least room of a dispute's buffer, in bytes */
+#define LOT_APPEND_WHOLE 65       /* the `stop` of an append that is not cut */
+
+/* The bytes of a store with room for so many elements. */
+#define LOT_STORE_BYTES(room) \
+    ((size_t)LOT_HEADER_BYTES + (size_t)LOT_RECORD_BYTES * (size_t)(room))
 
 /* SHA-256 of the message. Refusals: 3. */
 uint64_t lot_hash(const uint8_t *message, size_t message_length, uint8_t digest[32]);
@@ -65,8 +79,12 @@ uint64_t lot_start(uint8_t *store, size_t store_length, uint64_t log);
 /* Counts the elements. Refusals: 1. Answer: the count. */
 uint64_t lot_count(const uint8_t *store, size_t store_length, uint64_t answer[3]);
 
-/* Appends an entry by 65 stores of one byte, the state byte last, and stops after `stop` of them; 65
-   or more is the whole append. Refusals: 1, 3, 5. Answer: the count now held. */
+/* Appends an entry: the 64 bytes of d and T, in no certain order, and when all of them are stored the
+   state byte, by itself, which closes the record. So a process that ends at any moment leaves the old
+   log or the new one. (What reaches a disk, and when, is the caller's to see to: docs/DURABILITY.md.)
+   It stops after the first `stop` of these 65 bytes; LOT_APPEND_WHOLE or more is the whole append.
+   Refusals: 1, 3, 5. Answer: the count now held. A cut append is no refusal: it answers 0 with the old
+   count. */
 uint64_t lot_append(uint8_t *store, size_t store_length, const uint8_t *entry, size_t entry_length,
                     uint64_t stop, uint64_t answer[3]);
 

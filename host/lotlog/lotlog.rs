@@ -2,10 +2,54 @@
 //!
 //! A slice passes as a pointer and a length, an array as a pointer; the borrow rules of Rust see to
 //! what the header asks of a C caller. Every call returns document 01's number, 0 for done, and
-//! where it answers with numbers they stand in [`Answer::beside`].
+//! where it answers with numbers they stand in [`Answer::beside`]. Positions count from 1. A store
+//! holds the digests of entries and not the entries, which are the caller's to keep.
+//!
+//! [`file`] keeps a store in a file, safely.
 //!
 //! The functions are `#[inline]`, so a program refers only to the calls that it makes: it links
 //! with a library that has these and not yet the others.
+
+pub mod file;
+
+/// The bytes of a store's header, and of each record behind it.
+pub const HEADER_BYTES: usize = 16;
+pub const RECORD_BYTES: usize = 65;
+
+/// The most elements of a log, and the most bytes of a proof.
+pub const ELEMENTS_MOST: usize = 1_048_575;
+pub const PROOF_MOST: usize = 14_048;
+
+/// The `stop` of a whole append: its last store, of the state byte, closes the record.
+pub const WHOLE: u64 = 65;
+
+/// The bytes of a store with room for so many elements.
+#[inline]
+pub const fn store_bytes(room: usize) -> usize {
+    HEADER_BYTES + RECORD_BYTES * room
+}
+
+/// Document 01's words for a number.
+#[inline]
+pub fn meaning(number: u64) -> &'static str {
+    match number {
+        0 => "done",
+        1 => "store damaged",
+        2 => "held state broken",
+        3 => "entry or message too long",
+        4 => "no such position or length",
+        5 => "no open record",
+        6 => "lent output too short",
+        7 => "proof length not that of the path",
+        8 => "first d is not the entry's",
+        9 => "basis row differs",
+        10 => "link differs",
+        11 => "last digest differs",
+        12 => "wrong T",
+        13 => "proof not accepted",
+        _ => "no number of document 01",
+    }
+}
 
 /// A digest: 32 bytes.
 pub type Digest = [u8; 32];
@@ -14,6 +58,7 @@ pub type Digest = [u8; 32];
 pub type Held = [u8; 688];
 
 /// Document 01's number and the numbers beside it.
+#[must_use]
 #[derive(Debug, Clone, Copy, PartialEq, Eq)]
 pub struct Answer {
     pub number: u64,
@@ -114,12 +159,14 @@ fn answered(call: impl FnOnce(*mut u64) -> u64) -> Answer {
 
 /// SHA-256 of the message. Refusals: 3.
 #[inline]
+#[must_use]
 pub fn hash(message: &[u8], digest: &mut Digest) -> u64 {
     unsafe { raw::lot_hash(message.as_ptr(), message.len(), digest.as_mut_ptr()) }
 }
 
 /// Starts a store for a log. Refusals: 6.
 #[inline]
+#[must_use]
 pub fn start(store: &mut [u8], log: u64) -> u64 {
     unsafe { raw::lot_start(store.as_mut_ptr(), store.len(), log) }
 }
@@ -130,7 +177,8 @@ pub fn count(store: &[u8]) -> Answer {
     answered(|answer| unsafe { raw::lot_count(store.as_ptr(), store.len(), answer) })
 }
 
-/// Appends an entry, stopping after `stop` stores; answers the count now held. Refusals: 1, 3, 5.
+/// Appends an entry, stopping after `stop` stores of [`WHOLE`]; answers the count now held: with an
+/// append that is cut, 0 and the old count. Refusals: 1, 3, 5.
 #[inline]
 pub fn append(store: &mut [u8], entry: &[u8], stop: u64) -> Answer {
     answered(|answer| unsafe {
@@ -140,6 +188,7 @@ pub fn append(store: &mut [u8], entry: &[u8], stop: u64) -> Answer {
 
 /// Reads T(at). Refusals: 1, 4.
 #[inline]
+#[must_use]
 pub fn digest_at(store: &[u8], at: u64, digest: &mut Digest) -> u64 {
     unsafe { raw::lot_digest_at(store.as_ptr(), store.len(), at, digest.as_mut_ptr()) }
 }
@@ -229,12 +278,14 @@ pub fn differing(first: &[u8], second: &[u8], i: u64, n: u64) -> Answer {
 
 /// The held state that the store gives at a length. Refusals: 1, 4.
 #[inline]
+#[must_use]
 pub fn held_at(store: &[u8], at: u64, held: &mut Held) -> u64 {
     unsafe { raw::lot_held_at(store.as_ptr(), store.len(), at, held.as_mut_ptr()) }
 }
 
 /// The held state at length 0 of a log. Never refuses.
 #[inline]
+#[must_use]
 pub fn held_start(log: u64, held: &mut Held) -> u64 {
     unsafe { raw::lot_held_start(log, held.as_mut_ptr()) }
 }

@@ -1,0 +1,244 @@
+//! A store in a file, call by call: files FOLDER. Every answer, every error and every byte of the file
+//! after it; what is flushed when; a flush or a reservation that fails; two writers; and readers
+//! beside a writer that goes on appending.
+
+mod expected;
+#[allow(dead_code)] // the program that ends processes uses the rest
+mod process;
+mod system;
+
+use std::io::ErrorKind;
+use std::os::unix::fs::MetadataExt;
+use std::path::{Path, PathBuf};
+use std::time::{Duration, Instant};
+use std::{env, fs, thread};
+
+use compare::logs::{entry, LOG};
+use lotlog::file::{Error, Reader, Refusal, Writer};
+use lotlog::{store_bytes, ELEMENTS_MOST};
+
+use expected::Expected;
+use process::Process;
+
+/// The folder of the files, and how many things were looked at.
+struct Tests {
+    folder: PathBuf,
+    looked_at: u64,
+}
+
+impl Tests {
+    fn look(&mut self, what: &str, is_so: bool) {
+        assert!(is_so, "{}", what);
+        self.looked_at += 1;
+    }
+
+    /// Looks whether a call failed with an error of the system of that kind.
+    fn fails<T>(&mut self, what: &str, result: Result<T, Error>, kind: ErrorKind) {
+        self.look(what, matches!(result, Err(Error::System(error)) if error.kind() == kind));
+    }
+
+    /// Looks whether the library refused.
+    fn refused<T>(&mut self, what: &str, result: Result<T, Error>, number: u64) {
+        self.look(what, matches!(result, Err(Error::Refused(Refusal(n))) if n == number));
+    }
+
+    fn path(&self, name: &str) -> PathBuf {
+        self.folder.join(name)
+    }
+
+    /// Looks whether a file holds those bytes, all of them on reserved room.
+    fn holds(&mut self, what: &str, path: &Path, bytes: &[u8]) {
+        self.look(what, fs::read(path).expect("the file") == bytes);
+        let file = fs::metadata(path).expect("the file");
+        self.look("the room is reserved", file.blocks() * 512 >= file.len());
+    }
+
+    /// A new store with its first entries, and what it must hold.
+    fn store(&mut self, name: &str, room: usize, count: u64) -> (PathBuf, Writer, Expected) {
+        let path = self.path(name);
+        let mut writer = Writer::create(&path, LOG, room).expect("a new store");
+        let mut expected = Expected::fresh(room);
+        for j in 1..=count {
+            self.look("an append", writer.append(&entry(j)).ok() == Some(j));
+        }
+        expected.grow(count);
+        self.holds("a store", &path, &expected.store);
+        (path, writer, expected)
+    }
+}
+
+fn creating(tests: &mut Tests) {
+    for room in [0, 1, 2, 63, 1000] {
+        let (path, writer, expected) = tests.store(&format!("create-{}", room), room, 0);
+        tests.look("the store is the file's", writer.store() == &expected.store[..]);
+        let again = Writer::create(&path, 8, 5);
+        tests.fails("a file that is there", again, ErrorKind::AlreadyExists);
+        tests.holds("it stays", &path, &expected.store);
+    }
+    let path = tests.path("create-not");
+    let long = Writer::create(&path, LOG, ELEMENTS_MOST + 1);
+    tests.fails("too much room", long, ErrorKind::InvalidInput);
+    let nowhere = Writer::create(&tests.path("no/such/folder"), LOG, 1);
+    tests.fails("no such folder", nowhere, ErrorKind::NotFound);
+    system::fail_reservation(1);
+    let full = Writer::create(&path, LOG, 10);
+    let told = matches!(&full, Err(Error::System(e)) if e.raw_os_error() == Some(system::NO_SPACE));
+    tests.look("a full disk", told);
+    system::fail_flush(1);
+    tests.look("a failed flush", matches!(Writer::create(&path, LOG, 10), Err(Error::System(_))));
+    tests.look("no file is left", !path.exists());
+}
+
+fn opening(tests: &mut Tests) {
+    let (path, writer, expected) = tests.store("open", 5, 3);
+    tests.fails("a second writer", Writer::open(&path), ErrorKind::WouldBlock);
+    let other = Process::begin(|| {
+        let second = Writer::open(&path);
+        assert!(matches!(second, Err(Error::System(e)) if e.kind() == ErrorKind::WouldBlock));
+        let reader = Reader::open(&path).and_then(|reader| reader.store());
+        assert_eq!(reader.expect("a copy"), expected.store);
+    });
+    tests.look("a writer and a reader in another process", other.ends_well());
+    drop(writer);
+    let writer = Writer::open(&path).expect("the store");
+    tests.look("opened again", writer.store() == &expected.store[..]);
+    drop(writer);
+    tests.fails("no file", Writer::open(&tests.path("not")), ErrorKind::NotFound);
+
+    let mut damaged = vec![vec![], vec![0; 15], expected.store.clone(), expected.store.clone()];
+    damaged[2][1] ^= 1;
+    damaged[3][store_bytes(2) - 1] = 2;
+    for store in damaged {
+        let path = tests.path("damaged");
+        fs::write(&path, &store).expect("a file");
+        tests.refused("a damaged store", Writer::open(&path), 1);
+        tests.look("it stays", fs::read(&path).expect("the file") == store);
+    }
+}
+
+fn appending(tests: &mut Tests) {
+    let (path, mut writer, mut expected) = tests.store("append", 70, 0);
+    system::flushed();
+    for j in 1..=70 {
+        tests.look("an append", writer.append(&entry(j)).ok() == Some(j));
+        expected.grow(j);
+        let record = &expected.store[store_bytes(j as usize - 1)..store_bytes(j as usize)];
+        let (body, closed) = record.split_at(64);
+        let flushed = system::flushed();
+        // the flushed bytes begin with a page and end with the record
+        tests.look("two flushes", flushed.len() == 2);
+        let [first, second] = [&flushed[0], &flushed[1]].map(|part| part.split_at(part.len() - 1));
+        tests.look("first d and T", first.0.ends_with(body) && first.1 == [0]);
+        tests.look("then the state byte", second.0.ends_with(body) && second.1 == closed);
+    }
+    tests.refused("no room", writer.append(b"x"), 5);
+    tests.refused("a long entry", writer.append(&[0; 4097]), 3);
+    tests.look("nothing is flushed then", system::flushed().is_empty());
+    tests.holds("the store", &path, &expected.store);
+    tests.refused("a refusal does not end it", writer.append(b"x"), 5);
+    let shown = writer.append(b"x").expect_err("no room").to_string();
+    tests.look("it says why", shown == "refused with 5: no open record");
+}
+
+fn failing_flushes(tests: &mut Tests) {
+    for (bad, left) in [(1, 2), (2, 3)] {
+        let (path, mut writer, mut expected) = tests.store(&format!("fail-{}", bad), 4, 2);
+        system::fail_flush(bad);
+        let failed = writer.append(&entry(3));
+        tests.look("a failed flush", matches!(failed, Err(Error::System(_))));
+        let again = writer.append(&entry(3));
+        tests.fails("it appends no more", again, ErrorKind::Other);
+        tests.fails("it grows no more", writer.grow(1), ErrorKind::Other);
+        drop(writer);
+        let mut writer = Writer::open(&path).expect("the store");
+        tests.look("old or new", expected.judge(writer.store(), left, left).is_ok());
+        tests.look("the next append", writer.append(&entry(left + 1)).ok() == Some(left + 1));
+        expected.grow(left + 1);
+        tests.holds("the store", &path, &expected.store);
+    }
+}
+
+fn growing(tests: &mut Tests) {
+    let (path, mut writer, _) = tests.store("grow", 2, 2);
+    tests.refused("no room", writer.append(&entry(3)), 5);
+    let mut room = 2;
+    let mut expected = Expected::fresh(room);
+    for more in [1, 62, 0, 100] {
+        tests.look("room is added", writer.grow(more).is_ok());
+        let old = room;
+        room += more;
+        expected = Expected::fresh(room);
+        expected.grow(old as u64);
+        tests.holds("the grown store", &path, &expected.store);
+        for j in old as u64 + 1..=room as u64 {
+            tests.look("an append", writer.append(&entry(j)).ok() == Some(j));
+        }
+        expected.grow(room as u64);
+        tests.holds("the filled store", &path, &expected.store);
+    }
+    let most = ELEMENTS_MOST - room;
+    tests.fails("too much", writer.grow(most + 1), ErrorKind::InvalidInput);
+    tests.fails("far too much", writer.grow(usize::MAX), ErrorKind::InvalidInput);
+    tests.refused("still no room", writer.append(b"x"), 5);
+    system::fail_reservation(1);
+    tests.look("a full disk", matches!(writer.grow(5), Err(Error::System(_))));
+    tests.fails("it appends no more", writer.append(b"x"), ErrorKind::Other);
+    drop(writer);
+    let writer = Writer::open(&path).expect("the store");
+    let log = &expected.store[..];
+    tests.look("the log is as it was", writer.store().starts_with(log));
+    tests.look("and sound", lotlog::audit(writer.store()).beside[0] == room as u64);
+}
+
+/// Bytes behind the last whole record are not read by the library; growing takes their place.
+fn growing_over_a_rest(tests: &mut Tests) {
+    let (path, writer, expected) = tests.store("rest", 2, 1);
+    drop(writer);
+    fs::write(&path, [&expected.store[..], &[0xEE; 30]].concat()).expect("a file");
+    let mut writer = Writer::open(&path).expect("the store");
+    tests.look("room is added", writer.grow(2).is_ok());
+    let mut expected = Expected::fresh(4);
+    expected.grow(1);
+    tests.holds("the grown store", &path, &expected.store);
+}
+
+/// A reader sees a log between two appends, whatever the writer does.
+fn reading_beside(tests: &mut Tests) {
+    const LAST: u64 = 600;
+    let (path, writer, mut expected) = tests.store("beside", LAST as usize, 1);
+    drop(writer);
+    let process = Process::begin(|| {
+        let mut writer = Writer::open(&path).expect("the store");
+        for j in 2..=LAST {
+            assert!(writer.append(&entry(j)).is_ok());
+            thread::sleep(Duration::from_millis(1));
+        }
+    });
+    let reader = Reader::open(&path).expect("the store");
+    let (mut last, mut different) = (1, 0);
+    let began = Instant::now();
+    while last < LAST {
+        let store = reader.store().expect("a copy");
+        let count = expected.judge(&store, last, LAST).unwrap_or_else(|fault| panic!("{}", fault));
+        // not even a torn record
+        tests.look("a copy between two appends", store == expected.store);
+        different += u64::from(count > last);
+        last = count;
+        assert!(began.elapsed() < Duration::from_secs(120), "the writer does not go on");
+    }
+    tests.look("the log grew meanwhile", different > 5);
+    tests.look("the writer was not held up", process.ends_well());
+}
+
+fn main() {
+    let folder = PathBuf::from(env::args().nth(1).expect("files FOLDER"));
+    let mut tests = Tests { folder, looked_at: 0 };
+    creating(&mut tests);
+    opening(&mut tests);
+    appending(&mut tests);
+    failing_flushes(&mut tests);
+    growing(&mut tests);
+    growing_over_a_rest(&mut tests);
+    reading_beside(&mut tests);
+    println!("{} things of a store in a file are as they should be", tests.looked_at);
+}

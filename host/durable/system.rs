@@ -1,0 +1,71 @@
+//! The two calls of the system by which a store reaches the disk, watched: they take the place of the
+//! C library's, note what they are asked for, and fail when told to.
+
+use std::os::raw::{c_int, c_long, c_void};
+use std::slice;
+use std::sync::atomic::{AtomicUsize, Ordering::SeqCst};
+use std::sync::Mutex;
+
+/// The system's numbers on x86-64 Linux.
+const MSYNC: c_long = 26;
+const FALLOCATE: c_long = 285;
+const INPUT_OUTPUT_ERROR: c_int = 5;
+pub const NO_SPACE: c_int = 28;
+
+extern "C" {
+    fn syscall(number: c_long, ...) -> c_long;
+    fn __errno_location() -> *mut c_int;
+}
+
+/// What each flush was asked to bring to the disk.
+static FLUSHED: Mutex<Vec<Vec<u8>>> = Mutex::new(vec![]);
+
+/// Which flush from now on fails, and which reservation; 0 for none.
+static BAD_FLUSH: AtomicUsize = AtomicUsize::new(0);
+static BAD_RESERVATION: AtomicUsize = AtomicUsize::new(0);
+
+pub fn fail_flush(number: usize) {
+    BAD_FLUSH.store(number, SeqCst);
+}
+
+pub fn fail_reservation(number: usize) {
+    BAD_RESERVATION.store(number, SeqCst);
+}
+
+/// What was flushed since this was asked last.
+pub fn flushed() -> Vec<Vec<u8>> {
+    std::mem::take(&mut FLUSHED.lock().expect("no other thread"))
+}
+
+/// Counts down to the call that fails.
+fn is_bad(which: &AtomicUsize) -> bool {
+    let left = which.load(SeqCst);
+    which.store(left.saturating_sub(1), SeqCst);
+    left == 1
+}
+
+/// # Safety
+/// As of the C library's.
+#[no_mangle]
+pub unsafe extern "C" fn msync(at: *mut c_void, n: usize, how: c_int) -> c_int {
+    let bytes = slice::from_raw_parts(at.cast::<u8>(), n).to_vec();
+    FLUSHED.lock().expect("no other thread").push(bytes);
+    if is_bad(&BAD_FLUSH) {
+        *__errno_location() = INPUT_OUTPUT_ERROR;
+        return -1;
+    }
+    syscall(MSYNC, at, n, how) as c_int
+}
+
+/// # Safety
+/// As of the C library's.
+#[no_mangle]
+pub unsafe extern "C" fn posix_fallocate(file: c_int, from: i64, n: i64) -> c_int {
+    if is_bad(&BAD_RESERVATION) {
+        return NO_SPACE;
+    }
+    match syscall(FALLOCATE, c_long::from(file), 0 as c_long, from, n) {
+        0 => 0,
+        _ => *__errno_location(),
+    }
+}

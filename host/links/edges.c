@@ -1,0 +1,254 @@
+/*
+ * What lotlog.h allows of pointers: NULL with length 0 for every slice, and any alignment.
+ *
+ * Each call of the table is made with all its lent pieces at aligned addresses. Then pieces are moved
+ * by 1 to 15 bytes, in every choice of pieces. And slices are made empty, in every choice of slices:
+ * once at good pointers, once at NULL. Each time the number, the answer and all lent bytes must be the
+ * same, and the bytes around a lent piece must stay.
+ */
+#include <stdio.h>
+#include <string.h>
+
+#include "lotlog.h"
+
+enum {
+    ALIGNED = 16,             /* an aligned address is a multiple of this */
+    GUARD = 16,               /* at least so many bytes guard a piece on each side */
+    FILL = 0xA5,              /* the guards' bytes, and an output's before a call */
+    PIECES = 8,               /* a call is lent no more pieces than this */
+    MOST = LOT_DISPUTE_LEAST, /* nor a longer one */
+    LOG = 7,
+    COUNT = 5 /* the log's elements; the second is an entry of no bytes */
+};
+
+/* The material. Each proof has the length of its path: 1, 2, 4, 5, then 2, 4, 5, then 4, 5 alone. */
+static uint8_t entry[200], store[LOT_STORE_BYTES(COUNT + 1)], digest[LOT_DIGEST_BYTES];
+static uint8_t proof[352], changed[352], proof_2[288], advance[192];
+static uint8_t held_2[LOT_HELD_BYTES], held_5[LOT_HELD_BYTES];
+
+/* A call as it is made: the pieces that it is lent, and the numbers that it takes. */
+struct lending {
+    uint8_t *at[PIECES];
+    size_t length[PIECES];
+    const uint64_t *number;
+};
+
+/* C leaves a misaligned `uint64_t *` undefined. But nothing in C reads or writes through it: the callee
+   is not C and asks no alignment, and what it wrote is read back as bytes. */
+#define CALL(name, ...) \
+    static uint64_t call_##name(const struct lending *a) { return lot_##name(__VA_ARGS__); }
+#define SLICE(k) a->at[k], a->length[k]
+#define ARRAY(k) a->at[k]
+#define ANSWER(k) (uint64_t *)(void *)a->at[k]
+#define FIRST a->number[0]
+#define BOTH a->number[0], a->number[1]
+
+CALL(hash, SLICE(0), ARRAY(1))
+CALL(start, SLICE(0), FIRST)
+CALL(count, SLICE(0), ANSWER(1))
+CALL(append, SLICE(0), SLICE(1), FIRST, ANSWER(2))
+CALL(digest_at, SLICE(0), FIRST, ARRAY(1))
+CALL(audit, SLICE(0), ANSWER(1))
+CALL(build_membership, SLICE(0), BOTH, SLICE(1), ANSWER(2))
+CALL(check_membership, SLICE(0), BOTH, ARRAY(1), SLICE(2), ANSWER(3))
+CALL(dispute, SLICE(0), SLICE(1), SLICE(2), SLICE(3), BOTH, ARRAY(4), SLICE(5), SLICE(6), ANSWER(7))
+CALL(differing, SLICE(0), SLICE(1), BOTH, ANSWER(2))
+CALL(held_at, SLICE(0), FIRST, ARRAY(1))
+CALL(held_start, FIRST, ARRAY(0))
+CALL(build_advancement, SLICE(0), BOTH, SLICE(1), ANSWER(2))
+CALL(check_advancement, ARRAY(0), FIRST, ARRAY(1), SLICE(2), ANSWER(3))
+
+/* A piece of lent memory: what it holds before the call, or NULL for an output; its length; and the
+   number of the call if this piece is a slice and it alone is empty. */
+struct piece {
+    enum { NO_PIECE, AN_ARRAY, AN_ANSWER, A_SLICE } kind;
+    const uint8_t *bytes;
+    size_t length;
+    uint64_t if_empty;
+};
+
+#define IN(bytes, if_empty) {A_SLICE, bytes, sizeof bytes, if_empty}
+#define OUT(length, if_empty) {A_SLICE, NULL, length, if_empty}
+#define NOTHING {A_SLICE, NULL, 0, 0}
+#define FIXED(bytes) {AN_ARRAY, bytes, sizeof bytes, 0}
+#define FIXED_OUT(length) {AN_ARRAY, NULL, length, 0}
+#define TOLD {AN_ANSWER, NULL, LOT_ANSWER_NUMBERS * sizeof(uint64_t), 0}
+
+/* A call that is done: the numbers that it takes, the first number of its answer, what it is lent. */
+struct test {
+    const char *name;
+    uint64_t (*make)(const struct lending *);
+    uint64_t number[2], told;
+    struct piece pieces[PIECES];
+};
+
+static const struct test tests[] = {
+    {"hash", call_hash, {0, 0}, 0, {IN(entry, 0), FIXED_OUT(32)}},
+    {"start", call_start, {LOG, 0}, 0, {OUT(sizeof store, 6)}},
+    {"count", call_count, {0, 0}, COUNT, {IN(store, 1), TOLD}},
+    {"append", call_append, {LOT_APPEND_WHOLE, 0}, COUNT + 1, {IN(store, 1), IN(entry, 0), TOLD}},
+    {"digest at", call_digest_at, {COUNT, 0}, 0, {IN(store, 1), FIXED_OUT(32)}},
+    {"audit", call_audit, {0, 0}, COUNT, {IN(store, 1), TOLD}},
+    {"build membership", call_build_membership, {1, COUNT}, sizeof proof,
+     {IN(store, 1), OUT(sizeof proof, 6), TOLD}},
+    {"check membership", call_check_membership, {1, COUNT}, 3,
+     {IN(entry, 8), FIXED(digest), IN(proof, 7), TOLD}},
+    {"check membership of no bytes", call_check_membership, {2, COUNT}, 2,
+     {NOTHING, FIXED(digest), IN(proof_2, 7), TOLD}},
+    {"dispute", call_dispute, {1, COUNT}, 1,
+     {IN(entry, 13), IN(proof, 13), IN(entry, 13), IN(proof, 13), FIXED(digest), OUT(MOST, 6),
+      OUT(MOST, 6), TOLD}},
+    {"dispute of no bytes", call_dispute, {2, COUNT}, 1,
+     {NOTHING, IN(proof_2, 13), NOTHING, IN(proof_2, 13), FIXED(digest), OUT(MOST, 6),
+      OUT(MOST, 6), TOLD}},
+    {"differing", call_differing, {1, COUNT}, sizeof proof - 64, {IN(proof, 0), IN(changed, 0), TOLD}},
+    {"held at", call_held_at, {COUNT, 0}, 0, {IN(store, 1), FIXED_OUT(LOT_HELD_BYTES)}},
+    {"held start", call_held_start, {LOG, 0}, 0, {FIXED_OUT(LOT_HELD_BYTES)}},
+    {"build advancement", call_build_advancement, {2, COUNT}, sizeof advance,
+     {IN(store, 1), OUT(sizeof advance, 6), TOLD}},
+    {"build advancement of 0 hops", call_build_advancement, {COUNT, COUNT}, 0,
+     {IN(store, 1), NOTHING, TOLD}},
+    {"check advancement", call_check_advancement, {COUNT, 0}, 2,
+     {FIXED(held_2), FIXED(digest), IN(advance, 7), TOLD}},
+    {"check advancement of 0 hops", call_check_advancement, {COUNT, 0}, 0,
+     {FIXED(held_5), FIXED(digest), NOTHING, TOLD}},
+};
+
+/* How a call is made: which pieces are empty, NULL and moved, with bit k for piece k. */
+struct way {
+    unsigned empty, null, moved;
+    int by;
+};
+
+/* What came of a call: its number, and the lent pieces after it. */
+struct outcome {
+    uint64_t number;
+    uint8_t lent[PIECES][MOST];
+};
+
+/* Each piece has a room, long enough for an aligned address, an offset, and guards on both sides. */
+static uint8_t rooms[PIECES][GUARD + 2 * (ALIGNED - 1) + MOST + GUARD];
+static unsigned calls;
+
+static int has(unsigned choice, int k) { return choice >> k & 1; }
+
+/* Says what is wrong with a call. */
+static int wrong(const struct test *test, const struct way *way, const char *what) {
+    fprintf(stderr, "%s (empty %#x, NULL %#x, moved %#x by %d): %s\n", test->name, way->empty,
+            way->null, way->moved, way->by, what);
+    return 0;
+}
+
+/* Lays out what a call is lent. */
+static void lend(const struct test *test, const struct way *way, struct lending *a) {
+    memset(rooms, FILL, sizeof rooms);
+    a->number = test->number;
+    for (int k = 0; k < PIECES; k++) {
+        const struct piece *piece = &test->pieces[k];
+        uint8_t *from = rooms[k] + GUARD;
+        from += (ALIGNED - (uintptr_t)from % ALIGNED) % ALIGNED + (has(way->moved, k) ? way->by : 0);
+        a->length[k] = has(way->empty, k) ? 0 : piece->length;
+        if (piece->bytes != NULL) memcpy(from, piece->bytes, a->length[k]);
+        a->at[k] = has(way->null, k) ? NULL : from;
+    }
+}
+
+/* Whether the bytes around a piece are as they were. */
+static int guarded(const struct lending *a, int k) {
+    for (uint8_t *byte = rooms[k]; byte < rooms[k] + sizeof rooms[k]; byte++) {
+        int lent = a->at[k] != NULL && byte >= a->at[k] && byte < a->at[k] + a->length[k];
+        if (!lent && *byte != FILL) return 0;
+    }
+    return 1;
+}
+
+/* Makes a call and keeps what came of it. */
+static int make(const struct test *test, const struct way *way, struct outcome *outcome) {
+    struct lending a;
+    lend(test, way, &a);
+    memset(outcome, 0, sizeof *outcome);
+    outcome->number = test->make(&a);
+    for (int k = 0; k < PIECES; k++) {
+        if (!guarded(&a, k)) return wrong(test, way, "a byte beside a lent piece is changed");
+        if (a.length[k] > 0) memcpy(outcome->lent[k], a.at[k], a.length[k]);
+    }
+    return 1;
+}
+
+/* Makes a call and compares what came of it. */
+static int agrees(const struct test *test, const struct way *way, const struct outcome *expected) {
+    static struct outcome outcome;
+    calls++;
+    if (!make(test, way, &outcome)) return 0;
+    if (outcome.number != expected->number) return wrong(test, way, "another number");
+    if (memcmp(outcome.lent, expected->lent, sizeof outcome.lent) == 0) return 1;
+    return wrong(test, way, "other bytes");
+}
+
+/* Whether a choice has only pieces of the call that are of a kind, or of the kinds after it. */
+static int only(const struct test *test, unsigned choice, int kind) {
+    for (int k = 0; k < PIECES; k++)
+        if (has(choice, k) && (int)test->pieces[k].kind < kind) return 0;
+    return 1;
+}
+
+/* Every choice of pieces at every offset; that at offset 0 is the call to compare with. */
+static int misaligned(const struct test *test) {
+    static struct outcome aligned;
+    struct way way = {0, 0, 0, 0};
+    if (!make(test, &way, &aligned)) return 0;
+    if (aligned.number != 0) return wrong(test, &way, "the call is not done");
+    for (int k = 0; k < PIECES; k++)
+        if (test->pieces[k].kind == AN_ANSWER && memcmp(aligned.lent[k], &test->told, 8) != 0)
+            return wrong(test, &way, "not the answer of the table");
+    for (way.moved = 1; way.moved < 1u << PIECES; way.moved++)
+        if (only(test, way.moved, AN_ARRAY))
+            for (way.by = 1; way.by < ALIGNED; way.by++)
+                if (!agrees(test, &way, &aligned)) return 0;
+    return 1;
+}
+
+/* Every choice of slices, empty at a good pointer and then at NULL. */
+static int null(const struct test *test) {
+    static struct outcome good;
+    struct way way = {0, 0, 0, 0};
+    for (way.empty = 1; way.empty < 1u << PIECES; way.empty++) {
+        if (!only(test, way.empty, A_SLICE)) continue;
+        way.null = 0;
+        if (!make(test, &way, &good)) return 0;
+        for (int k = 0; k < PIECES; k++)
+            if (way.empty == 1u << k && good.number != test->pieces[k].if_empty)
+                return wrong(test, &way, "not the number of the table");
+        way.null = way.empty;
+        if (!agrees(test, &way, &good)) return 0;
+    }
+    return 1;
+}
+
+/* Makes the material. */
+static int prepare(void) {
+    uint64_t answer[LOT_ANSWER_NUMBERS];
+    for (size_t at = 0; at < sizeof entry; at++) entry[at] = (uint8_t)(7 * at + 1);
+    uint64_t refused = lot_start(store, sizeof store, LOG);
+    for (int j = 1; j <= COUNT; j++)
+        refused |= lot_append(store, sizeof store, entry, j == 2 ? 0 : sizeof entry, LOT_APPEND_WHOLE,
+                              answer);
+    refused |= lot_digest_at(store, sizeof store, COUNT, digest);
+    refused |= lot_build_membership(store, sizeof store, 1, COUNT, proof, sizeof proof, answer);
+    refused |= lot_build_membership(store, sizeof store, 2, COUNT, proof_2, sizeof proof_2, answer);
+    refused |= lot_build_advancement(store, sizeof store, 2, COUNT, advance, sizeof advance, answer);
+    refused |= lot_held_at(store, sizeof store, 2, held_2);
+    refused |= lot_held_at(store, sizeof store, COUNT, held_5);
+    memcpy(changed, proof, sizeof proof);
+    changed[sizeof changed - 1] ^= 1; /* in the last component, which has 64 bytes */
+    if (refused != 0) fprintf(stderr, "the material can't be made\n");
+    return refused == 0;
+}
+
+int main(void) {
+    if (!prepare()) return 1;
+    for (size_t t = 0; t < sizeof tests / sizeof tests[0]; t++)
+        if (!misaligned(&tests[t]) || !null(&tests[t])) return 1;
+    printf("%u calls with NULL or misaligned pointers agree\n", calls);
+    return 0;
+}

@@ -1,0 +1,250 @@
+//! A store in a file: made, opened, appended to durably, and grown. docs/DURABILITY.md says what
+//! reaches the disk when, and why.
+//!
+//! One process at a time has the store open for writing, as a [`Writer`]; any number read beside it,
+//! each through a [`Reader`], which gives the store as it stood between two appends. Both go by
+//! locks that the system releases when a process ends, however it ends. Whoever changes the file in
+//! another way is not held back, and one that cuts it shorter ends the writer's process.
+//!
+//! The file holds digests alone. An entry that is appended here must be kept by the caller, and be
+//! safe on the disk before the append: a digest whose entry is lost proves nothing.
+
+use std::fmt;
+use std::fs::{self, File, OpenOptions};
+use std::io;
+use std::os::unix::fs::FileExt;
+use std::path::Path;
+
+use super::{store_bytes, Answer, ELEMENTS_MOST, HEADER_BYTES, RECORD_BYTES, WHOLE};
+
+mod lock;
+mod map;
+
+use lock::{Lock, GATE, SEAT};
+use map::Map;
+
+/// The stop of an append that stores d and T and leaves the record open.
+const BODY: u64 = WHOLE - 1;
+
+/// A refusal of the library: document 01's number, which is not 0. The store is as it was.
+#[derive(Debug, Clone, Copy, PartialEq, Eq)]
+pub struct Refusal(pub u64);
+
+impl fmt::Display for Refusal {
+    fn fmt(&self, out: &mut fmt::Formatter) -> fmt::Result {
+        write!(out, "refused with {}: {}", self.0, super::meaning(self.0))
+    }
+}
+
+/// Why something was not done: the system could not, or the library refused.
+#[derive(Debug)]
+pub enum Error {
+    System(io::Error),
+    Refused(Refusal),
+}
+
+impl fmt::Display for Error {
+    fn fmt(&self, out: &mut fmt::Formatter) -> fmt::Result {
+        match self {
+            Error::System(error) => error.fmt(out),
+            Error::Refused(refusal) => refusal.fmt(out),
+        }
+    }
+}
+
+impl std::error::Error for Error {}
+
+impl From<io::Error> for Error {
+    fn from(error: io::Error) -> Error {
+        Error::System(error)
+    }
+}
+
+/// The first number beside an answer that is no refusal.
+#[inline]
+fn done(answer: Answer) -> Result<u64, Error> {
+    match answer.number {
+        0 => Ok(answer.beside[0]),
+        number => Err(Error::Refused(Refusal(number))),
+    }
+}
+
+/// Starts a store; one that is too short is refused.
+#[inline]
+fn started(store: &mut [u8], log: u64) -> Result<(), Error> {
+    done(Answer { number: super::start(store, log), beside: [0; 3] }).map(|_| ())
+}
+
+/// Appends an entry to a store that is kept elsewhere, so that what is kept is at every moment the
+/// old log or the new one. `keep` is handed the bytes of the record and returns when they are safe.
+/// It is called twice: with d and T stored and the record still open, and with the record closed. So
+/// no closed record is ever kept without its d and T, whatever part of a record is written first.
+///
+/// Gives the new count. Refusals: 1, 3, 5, and then `keep` is not called. If `keep` fails the first
+/// time the log is the old one; if it fails the second time, what is kept is the old or the new one.
+#[inline]
+pub fn append_durably(
+    store: &mut [u8],
+    entry: &[u8],
+    mut keep: impl FnMut(&[u8]) -> io::Result<()>,
+) -> Result<u64, Error> {
+    let before = done(super::append(store, entry, BODY))? as usize;
+    let record = store_bytes(before)..store_bytes(before + 1);
+    keep(&store[record.clone()])?;
+    let count = done(super::append(store, entry, WHOLE))?;
+    keep(&store[record])?;
+    Ok(count)
+}
+
+/// A store that this process alone may change.
+pub struct Writer {
+    file: File,
+    map: Map,
+    /// Whether a flush failed: then nobody can say what is on the disk.
+    unsure: bool,
+}
+
+impl Writer {
+    /// Makes a file with a fresh store for a log, with room for so many elements, all of it reserved
+    /// on the disk. A file that is there already is an error and stays as it is. Of an attempt that
+    /// fails no file is left.
+    #[inline]
+    pub fn create(path: &Path, log: u64, room: usize) -> Result<Writer, Error> {
+        check_room(room)?;
+        let file = OpenOptions::new().read(true).write(true).create_new(true).open(path)?;
+        let made = Writer::fill(file, log, room).and_then(|writer| {
+            sync_folder(path)?;
+            Ok(writer)
+        });
+        if made.is_err() {
+            // the first error is the one to tell
+            let _ = fs::remove_file(path);
+        }
+        made
+    }
+
+    #[inline]
+    fn fill(file: File, log: u64, room: usize) -> Result<Writer, Error> {
+        Lock::try_alone(&file, SEAT)?.keep();
+        let gate = Lock::alone(&file, GATE)?;
+        map::reserve(&file, store_bytes(room))?;
+        let mut map = Map::of(&file, store_bytes(room))?;
+        started(map.bytes_mut(), log)?;
+        map::flush(map.bytes())?;
+        file.sync_all()?;
+        drop(gate);
+        Ok(Writer { file, map, unsure: false })
+    }
+
+    /// Opens a store for writing. That another process has it is an error of the system, of the kind
+    /// `WouldBlock`. A store that is damaged is refused with 1; its digests are for the audit to
+    /// judge.
+    #[inline]
+    pub fn open(path: &Path) -> Result<Writer, Error> {
+        let file = OpenOptions::new().read(true).write(true).open(path)?;
+        Lock::try_alone(&file, SEAT)?.keep();
+        // only now: the writer before may have grown it
+        let map = Map::of(&file, length_of(&file)?)?;
+        done(super::count(map.bytes()))?;
+        Ok(Writer { file, map, unsure: false })
+    }
+
+    /// The store, for every call that reads one.
+    pub fn store(&self) -> &[u8] {
+        self.map.bytes()
+    }
+
+    /// Appends an entry and returns when it is safe on the disk, with the new count. Refusals: 1, 3,
+    /// 5. After an error of the system the log on the disk is the old or the new one, and this
+    /// writer appends no more.
+    #[inline]
+    pub fn append(&mut self, entry: &[u8]) -> Result<u64, Error> {
+        self.must_be_sure()?;
+        let gate = Lock::alone(&self.file, GATE)?;
+        let appended = append_durably(self.map.bytes_mut(), entry, map::flush);
+        drop(gate);
+        self.note(appended)
+    }
+
+    /// Adds room for so many elements, reserved on the disk. After an error of the system this
+    /// writer appends no more; the log is as it was.
+    #[inline]
+    pub fn grow(&mut self, more: usize) -> Result<(), Error> {
+        self.must_be_sure()?;
+        let whole = (self.map.bytes().len() - HEADER_BYTES) / RECORD_BYTES;
+        check_room(whole.saturating_add(more))?;
+        let gate = Lock::alone(&self.file, GATE)?;
+        let grown = longer(&self.file, store_bytes(whole), more);
+        drop(gate);
+        self.map = self.note(grown)?;
+        Ok(())
+    }
+
+    fn must_be_sure(&self) -> io::Result<()> {
+        if self.unsure {
+            return Err(io::Error::new(io::ErrorKind::Other, "an earlier write or flush failed"));
+        }
+        Ok(())
+    }
+
+    /// Hands a result on, and remembers an error of the system.
+    fn note<T>(&mut self, result: Result<T, Error>) -> Result<T, Error> {
+        self.unsure = matches!(result, Err(Error::System(_)));
+        result
+    }
+}
+
+/// Writes open records behind the whole ones, and maps all. What an open record is, a fresh store
+/// says.
+#[inline]
+fn longer(file: &File, end: usize, more: usize) -> Result<Map, Error> {
+    let mut fresh = vec![0; store_bytes(more)];
+    started(&mut fresh, 0)?;
+    let records = &fresh[HEADER_BYTES..];
+    file.write_all_at(records, end as u64)?;
+    map::reserve(file, end + records.len())?;
+    file.sync_all()?;
+    Ok(Map::of(file, end + records.len())?)
+}
+
+/// A store that others may write meanwhile.
+pub struct Reader {
+    file: File,
+}
+
+impl Reader {
+    pub fn open(path: &Path) -> io::Result<Reader> {
+        Ok(Reader { file: File::open(path)? })
+    }
+
+    /// A copy of the store as it stands between two appends, for every call that reads one. It waits
+    /// for an append that is under way, and an append waits for it.
+    pub fn store(&self) -> io::Result<Vec<u8>> {
+        let _gate = Lock::shared(&self.file, GATE)?;
+        let mut store = vec![0; length_of(&self.file)?];
+        self.file.read_exact_at(&mut store, 0)?;
+        Ok(store)
+    }
+}
+
+fn length_of(file: &File) -> io::Result<usize> {
+    Ok(file.metadata()?.len() as usize)
+}
+
+/// Room past the most elements of a log could never be used.
+fn check_room(room: usize) -> io::Result<()> {
+    if room > ELEMENTS_MOST {
+        let message = "a log has at most 1,048,575 elements";
+        return Err(io::Error::new(io::ErrorKind::InvalidInput, message));
+    }
+    Ok(())
+}
+
+/// Makes the name of a new file safe: that stands in its folder.
+fn sync_folder(path: &Path) -> io::Result<()> {
+    let folder = match path.parent() {
+        Some(folder) if !folder.as_os_str().is_empty() => folder,
+        _ => Path::new("."),
+    };
+    File::open(folder)?.sync_all()
+}
