@@ -84,9 +84,16 @@ fn creating(tests: &mut Tests) {
     let full = Writer::create(&path, LOG, 10);
     let told = matches!(&full, Err(Error::System(e)) if e.raw_os_error() == Some(system::NO_SPACE));
     tests.look("a full disk", told);
-    system::fail_flush(1);
-    tests.look("a failed flush", matches!(Writer::create(&path, LOG, 10), Err(Error::System(_))));
     tests.look("no file is left", !path.exists());
+    // of the bytes, of the file and of its name in the folder
+    for fail in
+        [|| system::fail_flush(1), || system::fail_file_flush(1), || system::fail_file_flush(2)]
+    {
+        fail();
+        let failed = Writer::create(&path, LOG, 10);
+        tests.look("a failed flush", matches!(failed, Err(Error::System(_))));
+        tests.look("no file is left", !path.exists());
+    }
 }
 
 fn opening(tests: &mut Tests) {
@@ -100,9 +107,19 @@ fn opening(tests: &mut Tests) {
     });
     tests.look("a writer and a reader in another process", other.ends_well());
     drop(writer);
+    system::files_flushed();
     let writer = Writer::open(&path).expect("the store");
     tests.look("opened again", writer.store() == &expected.store[..]);
+    tests.look("what was left is flushed first", system::files_flushed() == 1);
     drop(writer);
+    system::fail_file_flush(1);
+    tests.look("a failed flush", matches!(Writer::open(&path), Err(Error::System(_))));
+    let reader = Reader::open(&path).expect("the store");
+    system::files_flushed();
+    tests.look("a copy", reader.store().expect("a copy") == expected.store);
+    tests.look("what is read is flushed first", system::files_flushed() == 1);
+    system::fail_file_flush(1);
+    tests.look("a failed flush", reader.store().is_err());
     tests.fails("no file", Writer::open(&tests.path("not")), ErrorKind::NotFound);
 
     let mut damaged = vec![vec![], vec![0; 15], expected.store.clone(), expected.store.clone()];

@@ -1,5 +1,5 @@
-//! The two calls of the system by which a store reaches the disk, watched: they take the place of the
-//! C library's, note what they are asked for, and fail when told to.
+//! The calls of the system by which a store reaches the disk, watched: they take the place of the C
+//! library's, note what they are asked for, and fail when told to.
 
 use std::os::raw::{c_int, c_long, c_void};
 use std::slice;
@@ -8,6 +8,7 @@ use std::sync::Mutex;
 
 /// The system's numbers on x86-64 Linux.
 const MSYNC: c_long = 26;
+const FSYNC: c_long = 74;
 const FALLOCATE: c_long = 285;
 const INPUT_OUTPUT_ERROR: c_int = 5;
 pub const NO_SPACE: c_int = 28;
@@ -20,12 +21,20 @@ extern "C" {
 /// What each flush was asked to bring to the disk.
 static FLUSHED: Mutex<Vec<Vec<u8>>> = Mutex::new(vec![]);
 
-/// Which flush from now on fails, and which reservation; 0 for none.
+/// How often a whole file was flushed.
+static FILES_FLUSHED: AtomicUsize = AtomicUsize::new(0);
+
+/// Which flush from now on fails, which of a whole file, and which reservation; 0 for none.
 static BAD_FLUSH: AtomicUsize = AtomicUsize::new(0);
+static BAD_FILE_FLUSH: AtomicUsize = AtomicUsize::new(0);
 static BAD_RESERVATION: AtomicUsize = AtomicUsize::new(0);
 
 pub fn fail_flush(number: usize) {
     BAD_FLUSH.store(number, SeqCst);
+}
+
+pub fn fail_file_flush(number: usize) {
+    BAD_FILE_FLUSH.store(number, SeqCst);
 }
 
 pub fn fail_reservation(number: usize) {
@@ -35,6 +44,11 @@ pub fn fail_reservation(number: usize) {
 /// What was flushed since this was asked last.
 pub fn flushed() -> Vec<Vec<u8>> {
     std::mem::take(&mut FLUSHED.lock().expect("no other thread"))
+}
+
+/// How often a whole file was flushed since this was asked last.
+pub fn files_flushed() -> usize {
+    FILES_FLUSHED.swap(0, SeqCst)
 }
 
 /// Counts down to the call that fails.
@@ -55,6 +69,18 @@ pub unsafe extern "C" fn msync(at: *mut c_void, n: usize, how: c_int) -> c_int {
         return -1;
     }
     syscall(MSYNC, at, n, how) as c_int
+}
+
+/// # Safety
+/// As of the C library's.
+#[no_mangle]
+pub unsafe extern "C" fn fsync(file: c_int) -> c_int {
+    FILES_FLUSHED.fetch_add(1, SeqCst);
+    if is_bad(&BAD_FILE_FLUSH) {
+        *__errno_location() = INPUT_OUTPUT_ERROR;
+        return -1;
+    }
+    syscall(FSYNC, c_long::from(file)) as c_int
 }
 
 /// # Safety

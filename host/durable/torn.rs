@@ -7,17 +7,21 @@
 //! sectors in every way, each disk that a cut can leave must hold the old log or the new one, and the
 //! next append must work. The same is done to an append with one flush at its end, even if no sector
 //! is written in the middle of a copy: there a bad disk must be found, which is why there are two.
+//! And to an append that follows a process which was killed before its last flush: with all that it
+//! left made safe first, as `Writer::open` does, and without, where a bad disk must be found.
 
 mod expected;
 
 use compare::logs::entry;
 use lotlog::file::append_durably;
-use lotlog::{append, store_bytes, RECORD_BYTES, WHOLE};
+use lotlog::{append, store_bytes, WHOLE};
 
 use expected::Expected;
 
-/// Logs of up to so many elements; the next record of some lies across the border of a page.
+/// Logs of up to so many elements, in stores with room for some more; the next record of some lies
+/// across the border of a page.
 const ELEMENTS: u64 = 70;
+const ROOM: usize = ELEMENTS as usize + 4;
 
 /// The sizes of a sector: that of old disks, and that of new ones and of a page.
 const SECTORS: [usize; 2] = [512, 4096];
@@ -61,38 +65,61 @@ impl Pending {
     }
 }
 
-/// The pending bytes of an append that flushes twice, as `append_durably` does, flush by flush.
-fn in_two(store: &[u8], entry: &[u8]) -> Vec<Pending> {
-    let mut disk = store.to_vec();
-    let mut memory = store.to_vec();
-    let mut pending = vec![];
-    let record = lotlog::count(store).beside[0] as usize;
-    let place = store_bytes(record)..store_bytes(record + 1);
-    let appended = append_durably(&mut memory, entry, |kept| {
-        assert_eq!(kept.len(), RECORD_BYTES);
-        let mut after = disk.clone();
-        after[place.clone()].copy_from_slice(kept);
-        pending.push(Pending { before: disk.clone(), after: after.clone() });
-        disk = after;
-        Ok(())
-    });
-    assert_eq!(appended.ok(), Some(record as u64 + 1));
-    assert_eq!(disk, memory, "bytes were left that nothing keeps");
-    pending
+/// A disk, and the memory whose bytes it is to keep.
+#[derive(Clone)]
+struct Kept {
+    disk: Vec<u8>,
+    memory: Vec<u8>,
 }
 
-/// The pending bytes of an append that flushes at its end alone.
+impl Kept {
+    fn safe(store: &[u8]) -> Kept {
+        Kept { disk: store.to_vec(), memory: store.to_vec() }
+    }
+
+    /// What an append by `append_durably` has on its way to the disk before each of its flushes. A
+    /// flush brings the sectors of the record to the disk and no others.
+    fn append(&mut self, entry: &[u8], sector: usize) -> Vec<Pending> {
+        let Kept { disk, memory } = self;
+        let before = memory.clone();
+        let record = lotlog::count(memory).beside[0] as usize;
+        let place = store_bytes(record)..store_bytes(record + 1);
+        let sectors = place.start / sector * sector
+            ..((place.end + sector - 1) / sector * sector).min(before.len());
+        let mut pending = vec![];
+        let appended = append_durably(memory, entry, |kept| {
+            let mut after = before.clone();
+            after[place.clone()].copy_from_slice(kept);
+            pending.push(Pending { before: disk.clone(), after: after.clone() });
+            disk[sectors.clone()].copy_from_slice(&after[sectors.clone()]);
+            Ok(())
+        });
+        assert_eq!(appended.ok(), Some(record as u64 + 1));
+        assert_eq!(pending.len(), 2);
+        pending
+    }
+
+    /// A process that was killed when it had closed its record in memory, before the last flush.
+    fn killed(store: &[u8], entry: &[u8]) -> Kept {
+        let [mut disk, mut memory] = [store.to_vec(), store.to_vec()];
+        assert_eq!(append(&mut disk, entry, WHOLE - 1).number, 0);
+        assert_eq!(append(&mut memory, entry, WHOLE).number, 0);
+        Kept { disk, memory }
+    }
+}
+
+/// What an append that flushes at its end alone has on its way before that.
 fn in_one(store: &[u8], entry: &[u8]) -> Pending {
     let mut after = store.to_vec();
     assert_eq!(append(&mut after, entry, WHOLE).number, 0);
     Pending { before: store.to_vec(), after }
 }
 
-/// Whether a disk holds the log of `elements` or that of one more, and can be appended to.
-fn holds(disk: &[u8], elements: u64) -> Result<(), String> {
-    let mut expected = Expected::fresh(ELEMENTS as usize + 3);
+/// Whether a disk holds a log of one of the lengths, and can be appended to.
+fn holds(disk: &[u8], least: u64, most: u64) -> Result<(), String> {
+    let mut expected = Expected::fresh(ROOM);
     let mut disk = disk.to_vec();
-    let count = expected.judge(&disk, elements, elements + 1)?;
+    let count = expected.judge(&disk, least, most)?;
     let next = append(&mut disk, &entry(count + 1), WHOLE);
     if [next.number, next.beside[0]] != [0, count + 1] {
         return Err(format!("the next append answers {:?}", next));
@@ -100,24 +127,52 @@ fn holds(disk: &[u8], elements: u64) -> Result<(), String> {
     expected.judge(&disk, count + 1, count + 1).map(|_| ())
 }
 
-fn main() {
-    let (mut disks, mut bad) = (0, 0);
-    for (elements, sector) in (0..=ELEMENTS).flat_map(|n| SECTORS.map(|sector| (n, sector))) {
-        let mut expected = Expected::fresh(ELEMENTS as usize + 3);
-        expected.grow(elements);
-        let [store, entry] = [&expected.store, &entry(elements + 1)];
-        for disk in in_two(store, entry).iter().flat_map(|pending| pending.disks(sector, true)) {
-            disks += 1;
-            if let Err(fault) = holds(&disk, elements) {
-                panic!("log of {}, sectors of {}: {}", elements, sector, fault);
-            }
-        }
-        let disks = in_one(store, entry).disks(sector, false);
-        bad += disks.iter().filter(|disk| holds(disk, elements).is_err()).count();
+/// Disks, and those among them that hold neither log.
+#[derive(Default)]
+struct Tally {
+    disks: usize,
+    bad: usize,
+}
+
+impl Tally {
+    fn look(&mut self, disks: Vec<Vec<u8>>, least: u64, most: u64) {
+        self.disks += disks.len();
+        self.bad += disks.iter().filter(|disk| holds(disk, least, most).is_err()).count();
     }
-    assert!(bad > 0, "an append with one flush was not found out");
+}
+
+fn main() {
+    let [mut right, mut once, mut unsafe_start] = [(); 3].map(|_| Tally::default());
+    for (n, sector) in (0..=ELEMENTS).flat_map(|n| SECTORS.map(|sector| (n, sector))) {
+        let mut expected = Expected::fresh(ROOM);
+        expected.grow(n);
+        let store = &expected.store;
+        let [next, after_it] = [entry(n + 1), entry(n + 2)];
+
+        for pending in Kept::safe(store).append(&next, sector) {
+            right.look(pending.disks(sector, true), n, n + 1);
+        }
+        once.look(in_one(store, &next).disks(sector, false), n, n + 1);
+
+        // the next writer appends to what a killed one left, and makes that safe first, or does not
+        let killed = Kept::killed(store, &next);
+        for pending in Kept::safe(&killed.memory).append(&after_it, sector) {
+            right.look(pending.disks(sector, true), n + 1, n + 2);
+        }
+        for pending in killed.clone().append(&after_it, sector) {
+            unsafe_start.look(pending.disks(sector, false), n, n + 2);
+        }
+        // and what is on the disk when nobody appends any more
+        let mut left = killed;
+        left.append(&after_it, sector);
+        unsafe_start.look(vec![left.disk], n, n + 2);
+    }
+    assert_eq!(right.bad, 0, "disks that hold neither log");
+    assert!(once.bad > 0, "an append with one flush was not found out");
+    assert!(unsafe_start.bad > 0, "an open without a flush was not found out");
     println!(
-        "{} disks hold the old log or the new one; with one flush {} hold neither",
-        disks, bad
+        "{} disks hold the old log or the new one; {} of {} do not with one flush, {} of {} not \
+         where a killed writer's bytes are not made safe first",
+        right.disks, once.bad, once.disks, unsafe_start.bad, unsafe_start.disks
     );
 }

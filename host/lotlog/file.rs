@@ -143,6 +143,9 @@ impl Writer {
     pub fn open(path: &Path) -> Result<Writer, Error> {
         let file = OpenOptions::new().read(true).write(true).open(path)?;
         Lock::try_alone(&file, SEAT)?.keep();
+        // a writer that was killed may have closed a record that is not on the disk yet: no record
+        // behind it may get there first
+        file.sync_all()?;
         // only now: the writer before may have grown it
         let map = Map::of(&file, length_of(&file)?)?;
         done(super::count(map.bytes()))?;
@@ -217,10 +220,12 @@ impl Reader {
         Ok(Reader { file: File::open(path)? })
     }
 
-    /// A copy of the store as it stands between two appends, for every call that reads one. It waits
-    /// for an append that is under way, and an append waits for it.
+    /// A copy of the store as it stands between two appends, for every call that reads one; all of it
+    /// is on the disk, also if the last writer was killed. It waits for an append that is under way,
+    /// and an append waits for it.
     pub fn store(&self) -> io::Result<Vec<u8>> {
         let _gate = Lock::shared(&self.file, GATE)?;
+        self.file.sync_all()?;
         let mut store = vec![0; length_of(&self.file)?];
         self.file.read_exact_at(&mut store, 0)?;
         Ok(store)
