@@ -1,0 +1,31 @@
+# fault: bytes of a record are stored by stores whose order nothing fixes: mov %rcx,0x48(%rax)
+# One of two addresses is stored to, by the way that was taken; one of them is in the store.
+        .globl  lot_append
+lot_append:
+        push    %r13
+        push    %rbp
+        push    %rbx
+        sub     $0x50,%rsp
+        mov     %rdi,%r13
+        mov     %r8,%rbp
+        imul    $0x41,%rsi,%rbx
+        cmp     $0x40,%rbp
+        mov     $0x40,%edx
+        cmovb   %rbp,%rdx
+        lea     0x10(%r13,%rbx,1),%rdi
+        mov     %rsp,%rsi
+        call    memcpy
+        mov     %rsp,%rax
+        test    %rbp,%rbp
+        je      2f
+        mov     %r13,%rax
+2:      mov     %rcx,0x48(%rax)
+        cmp     $0x41,%rbp
+        jb      1f
+        movb    $0x1,0x50(%r13,%rbx,1)
+1:      xor     %eax,%eax
+        add     $0x50,%rsp
+        pop     %rbx
+        pop     %rbp
+        pop     %r13
+        ret

@@ -1,0 +1,29 @@
+# fault: the store's address is given away, look there anew: call memset
+# The state byte is stored by a call, which may store more than it.
+        .globl  lot_append
+lot_append:
+        push    %r13
+        push    %rbp
+        push    %rbx
+        sub     $0x50,%rsp
+        mov     %rdi,%r13
+        mov     %r8,%rbp
+        imul    $0x41,%rsi,%rbx
+        cmp     $0x40,%rbp
+        mov     $0x40,%edx
+        cmovb   %rbp,%rdx
+        lea     0x10(%r13,%rbx,1),%rdi
+        mov     %rsp,%rsi
+        call    memcpy
+        cmp     $0x41,%rbp
+        jb      1f
+        lea     0x50(%r13,%rbx,1),%rdi
+        mov     $0x1,%esi
+        mov     $0x1,%edx
+        call    memset
+1:      xor     %eax,%eax
+        add     $0x50,%rsp
+        pop     %rbx
+        pop     %rbp
+        pop     %r13
+        ret

@@ -1,0 +1,24 @@
+# fault: this is not understood: jmp memcpy
+# The function ends with a jump to memcpy, which then copies after all.
+        .globl  lot_append
+lot_append:
+        push    %r13
+        push    %rbp
+        push    %rbx
+        sub     $0x50,%rsp
+        mov     %rdi,%r13
+        mov     %r8,%rbp
+        imul    $0x41,%rsi,%rbx
+        cmp     $0x41,%rbp
+        jb      1f
+        movb    $0x1,0x50(%r13,%rbx,1)
+1:      cmp     $0x40,%rbp
+        mov     $0x40,%edx
+        cmovb   %rbp,%rdx
+        lea     0x10(%r13,%rbx,1),%rdi
+        mov     %rsp,%rsi
+        add     $0x50,%rsp
+        pop     %rbx
+        pop     %rbp
+        pop     %r13
+        jmp     memcpy

@@ -1,0 +1,26 @@
+# fault: the state byte is stored without the copy
+# With a stop of 0 the copy is left out, but not the byte.
+        .globl  lot_append
+lot_append:
+        push    %r13
+        push    %rbp
+        push    %rbx
+        sub     $0x50,%rsp
+        mov     %rdi,%r13
+        mov     %r8,%rbp
+        imul    $0x41,%rsi,%rbx
+        test    %rbp,%rbp
+        je      1f
+        cmp     $0x40,%rbp
+        mov     $0x40,%edx
+        cmovb   %rbp,%rdx
+        lea     0x10(%r13,%rbx,1),%rdi
+        mov     %rsp,%rsi
+        call    memcpy
+1:      movb    $0x1,0x50(%r13,%rbx,1)
+        xor     %eax,%eax
+        add     $0x50,%rsp
+        pop     %rbx
+        pop     %rbp
+        pop     %r13
+        ret
