@@ -1,4 +1,4 @@
-# fault: a call of which nothing is known: call abort
+# fault: neither a copy into the store nor an inner function: call abort
 # A function from outside is called that is neither memcpy nor memmove.
         .globl  lot_append
 lot_append:
