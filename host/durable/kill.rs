@@ -20,7 +20,7 @@ use std::os::unix::io::AsRawFd;
 use std::path::Path;
 use std::sync::atomic::{AtomicU64, AtomicUsize, Ordering::SeqCst};
 use std::time::{Duration, Instant};
-use std::{env, hint, slice};
+use std::{env, hint, slice, thread};
 
 use compare::logs::{entry, LOG};
 use compare::random::{fresh_seed, Random};
@@ -31,11 +31,16 @@ use second::hash::Sha256;
 use expected::Expected;
 use process::{shared, Process};
 
-/// The most appends of one process, the last of which is cut.
+/// A process is ended in one of its first appends. It makes a few more if its end comes late, and then
+/// waits for it.
 const APPENDS: u64 = 12;
+const SPARE: u64 = 3;
 
 /// The longest that a process may take for them.
 const PATIENCE: Duration = Duration::from_secs(60);
+
+/// The most processes for each end that falls into an append: on a busy machine some come late.
+const TRIES: u64 = 10;
 
 /// Where the mapped store lies, for the copy routine below.
 static STORE: AtomicUsize = AtomicUsize::new(0);
@@ -138,16 +143,16 @@ impl Progress {
     }
 }
 
-/// What the process does: it appends until it is ended.
-fn append_on(kind: Kind, path: &Path, progress: &Progress) {
+/// What the process does: it appends up to an element, and waits to be ended.
+fn append_up_to(last: u64, kind: Kind, path: &Path, progress: &Progress) {
     let mut append = kind.open(path);
-    loop {
-        let next = progress.ended.load(SeqCst) + 1;
+    for next in progress.ended.load(SeqCst) + 1..=last {
         let entry = entry(next);
         progress.begun.store(next, SeqCst);
         append(&entry);
         progress.ended.store(next, SeqCst);
     }
+    thread::sleep(PATIENCE);
 }
 
 /// Waits until a process has begun an append; gives the time that one took, if there were others
@@ -187,8 +192,9 @@ impl Round<'_> {
     fn run(&mut self) -> Result<(), String> {
         let before = self.expected.count;
         self.progress.set(before);
-        let process = Process::begin(|| append_on(self.kind, self.path, self.progress));
         let last = before + self.random.between(1, APPENDS);
+        let process =
+            Process::begin(|| append_up_to(last + SPARE, self.kind, self.path, self.progress));
         if let Some(span) = wait_for(self.progress, last) {
             self.span = span;
         }
@@ -226,8 +232,9 @@ fn main() {
     let [kind, times, path] = <[String; 3]>::try_from(arguments).expect("kill KIND TIMES FILE");
     let (kind, times) = (Kind::named(&kind), times.parse::<u64>().expect("a number"));
     let path = Path::new(&path);
-    // most ends fall into an append, so three processes for each are enough
-    let room = ((APPENDS + 3) * times * 3) as usize;
+    let tries = TRIES * times;
+    // each process appends so often at most, and once more is appended after it
+    let room = ((APPENDS + SPARE + 1) * tries) as usize;
     drop(Writer::create(path, LOG, room).expect("a new store"));
 
     let seed = fresh_seed();
@@ -243,7 +250,10 @@ fn main() {
         new: 0,
     };
     let mut found = None;
+    let mut tried = 0;
     while round.ends < times && found.is_none() {
+        assert!(tried < tries, "seed {}: only {} ends fell into an append", seed, round.ends);
+        tried += 1;
         found = round.run().err();
     }
     match (found, kind == Kind::Careless) {
