@@ -1,11 +1,12 @@
-//! What a power cut may leave of an append: every such disk is made and looked at.
+//! What a power cut may leave of an append: such disks are made and looked at.
 //!
 //! A disk writes whole sectors. What was handed to it since the last flush it may have written or
 //! not, each sector for itself and in any order; and a sector that is on its way while the bytes of a
 //! record are copied may be written with some of them. Here a disk is bytes in memory, and what
 //! `append_durably` asks to be kept is a flush. For logs whose next record lies across a border of
-//! sectors in every way, each disk that a cut can leave must hold the old log or the new one, and the
-//! next append must work. The same is done to an append with one flush at its end, even if no sector
+//! sectors in every way, each sector is taken as it was, as it is to be, and with either half of the
+//! bytes that change: every such disk must hold the old log or the new one, and the next append must
+//! work. The same is done to an append with one flush at its end, even if no sector
 //! is written in the middle of a copy: there a bad disk must be found, which is why there are two.
 //! And to an append that follows a process which was killed before its last flush: with all that it
 //! left made safe first, as `Writer::open` does, and without, where a bad disk must be found.
@@ -51,7 +52,7 @@ impl Pending {
         states
     }
 
-    /// Every disk that a cut can leave.
+    /// The disks that a cut can leave, with each choice of states for its sectors.
     fn disks(&self, sector: usize, midway: bool) -> Vec<Vec<u8>> {
         let mut disks = vec![vec![]];
         for from in (0..self.before.len()).step_by(sector) {
