@@ -1,5 +1,5 @@
 -- What `joined` gives.
-use mathlib.Core.Path.{_≡_}
+use mathlib.Core.Path.{_≡_, ap, _∙_}
 use mathlib.Core.Bool.{cond}
 use mathlib.Core.List.{List, _++_}
 use Prim.Native.Nat.{ℕ, _+_, _≤_, _<_}
@@ -20,3 +20,7 @@ joined-short a b h = rw (le-leb _ _ h)
 pub joined-long : (a b : List ℕ) → limit < length a + length b → joinedOf a b ≡ replicate 32 0
 unfolding joinedOf
 joined-long a b h = rw (lt-leb _ _ h)
+
+-- the digest of a message that is handed over in two parts
+pub hashed : (r a b m : List ℕ) → r ≡ joinedOf a b → length a + length b ≤ limit → a ++ b ≡ m → r ≡ hashOf m
+hashed r a b m e h f = e ∙ joined-short a b h ∙ ap hashOf f

@@ -1,11 +1,11 @@
 -- Laws on lists that no one crate owns: a list that is filled from the front, parts of a list, and what stands behind the first i elements.
 use mathlib.Core.Path.{_≡_, refl, sym, ap, _∙_}
-use mathlib.Core.List.{List, [], _∷_, _++_, append-assoc, append-nil}
+use mathlib.Core.List.{List, map, [], _∷_, _++_, append-assoc, append-nil}
 use Prim.Native.Nat.{ℕ, zero, suc, _+_, _≤_, _<_}
 use native.Mathlib.Nat.{add-zero}
 use native.Mathlib.Numerals.{add-one}
 use native.Mathlib.Omega.{arith}
-use lib.ListN.{length, getD, take, drop, set, replicate, length-drop, drop-of-length-le}
+use lib.ListN.{length, getD, take, drop, set, replicate, length-drop, length-map, drop-of-length-le}
 use lib.Seq.{sets, sets-eq, length-sets, take-at, drop-cons, take-suc, take-add, take-suc-set, getD-take, getD-drop, length-take-le}
 
 -- a store at t makes the first t elements one more
@@ -67,3 +67,7 @@ sets-over l a b at h e =
     sets-end (sets l at a) b at (omega arith)
     ∙ ap (λ (p : List ℕ). p ++ b) (ap (take at) (sets-end l a at h) ∙ take-at (take at l) a at (length-take-le at l (omega arith)))
     ∙ sym (sets-end l b at (omega arith))
+
+-- a list has the length of one that is made of it element by element, as a struct's array is of its bytes
+pub mapped-long : {B : Type 0} {n : ℕ} (l : List ℕ) (f : ℕ → B) → length (map f l) ≡ n → length l ≡ n
+mapped-long l f h = sym (length-map l f) ∙ h

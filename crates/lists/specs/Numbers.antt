@@ -1,6 +1,6 @@
 -- Big-endian numbers: the length of `be`, and both ways round, number to bytes to number and bytes to number to bytes.
 use mathlib.Core.Path.{_≡_, refl, sym, ap, ap₂, _∙_}
-use mathlib.Core.List.{[], _∷_}
+use mathlib.Core.List.{[], _∷_, _++_}
 use Prim.Native.Nat.{ℕ, zero, suc, _+_, _*_, _/_, _%_, _^_, _≤_, _<_}
 use native.Mathlib.Nat.{pow-suc, div-one, div-eq-of-lt, div-div-eq-div-mul, div-add-mod'}
 use native.Mathlib.Decide.{decLe}
@@ -51,7 +51,17 @@ be-from (b ∷ bs) n a =
 pub be-number : (k : ℕ) (b : Bytes) → length b ≡ k → AreBytes b → be k (number b) ≡ b
 be-number k b e a = ap (λ (j : ℕ). be j (number b)) (sym e) ∙ be-from b 0 a
 
--- ---- the bytes of a part are bytes
+-- ---- the bytes of a number are bytes, and so are those of two strings together, and those of a part
+
+pub be-bytes : (k n : ℕ) → AreBytes (be k n)
+be-bytes zero n i = omega arith
+be-bytes (suc k) n zero = omega arith
+be-bytes (suc k) n (suc i) = be-bytes k n i
+
+pub append-bytes : (a b : Bytes) → AreBytes a → AreBytes b → AreBytes (a ++ b)
+append-bytes [] b ha hb i = hb i
+append-bytes (x ∷ a) b ha hb zero = ha 0
+append-bytes (x ∷ a) b ha hb (suc i) = append-bytes a b (λ j. ha (suc j)) hb i
 
 pub part-bytes : (s : Bytes) (at n : ℕ) → AreBytes s → AreBytes (take n (drop at s))
 part-bytes s at n a i = go (decLe n i)

@@ -2,9 +2,11 @@
 use mathlib.Core.Path.{_≡_, refl, ap, _∙_}
 use mathlib.Core.List.{[], _∷_, _++_}
 use Prim.Native.Nat.{ℕ, zero, suc, _+_, _/_}
-use lib.Bits.{bitXor}
+use lib.Bits.{bitXor, xor-lt}
 use lib.ListN.{length, take, drop}
-use Rattle.lists.specs.Bytes.{Bytes, zeros}
+use lib.Seq.{getD-drop}
+use Rattle.lists.specs.Bytes.{Bytes, AreBytes, zeros}
+use Rattle.lists.specs.Numbers.{be-bytes, append-bytes, part-bytes}
 
 -- two rows, XORed place by place
 unfoldable pub xorRow : Bytes → Bytes → Bytes
@@ -41,3 +43,27 @@ xored-length (suc k) row m = xored-length k (xorRow row (block m)) (drop 32 m) �
 pub hash-length : (m : Bytes) → length (hashOf m) ≡ 32
 unfolding hashOf
 hash-length m = xored-length ((length m + 31) / 32) zeros m
+
+-- ---- and of bytes it gives bytes
+
+xor-bytes : (xs ys : Bytes) → AreBytes xs → AreBytes ys → AreBytes (xorRow xs ys)
+unfolding xorRow
+xor-bytes [] ys a b i = a i
+xor-bytes (x ∷ xs) [] a b i = a i
+xor-bytes (x ∷ xs) (y ∷ ys) a b zero = xor-lt 8 x y (a 0) (b 0)
+xor-bytes (x ∷ xs) (y ∷ ys) a b (suc i) = xor-bytes xs ys (λ j. a (suc j)) (λ j. b (suc j)) i
+
+-- zeros are bytes
+zeros-bytes : AreBytes zeros
+zeros-bytes = be-bytes 32 0
+
+xored-bytes : (k : ℕ) (row m : Bytes) → AreBytes row → AreBytes m → AreBytes (xored k row m)
+unfolding xored
+xored-bytes zero row m a b = a
+xored-bytes (suc k) row m a b =
+    xored-bytes k (xorRow row (block m)) (drop 32 m) (xor-bytes row (block m) a (part-bytes (m ++ zeros) 0 32 (append-bytes m zeros b zeros-bytes)))
+    (λ i. rw (getD-drop 32 m i 0) (b (32 + i)))
+
+pub hash-bytes : (m : Bytes) → AreBytes m → AreBytes (hashOf m)
+unfolding hashOf
+hash-bytes m a = xored-bytes ((length m + 31) / 32) zeros m zeros-bytes a

@@ -1,0 +1,1 @@
+pub mod Meets  -- the messages that two proofs come to

@@ -1,0 +1,1 @@
+pub mod Told  -- the number of what asking for a handle comes to; one outcome

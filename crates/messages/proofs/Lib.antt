@@ -1,1 +1,0 @@
-pub mod Hashed  -- what `joined` gives of a message in two parts

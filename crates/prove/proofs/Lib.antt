@@ -1,0 +1,1 @@
+pub mod Ways  -- the siblings on a way, counted and written

@@ -1,0 +1,2 @@
+pub mod Sorting  -- the two sides of a lent list
+pub mod Nodes  -- nodes over a lent list
