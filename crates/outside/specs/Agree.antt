@@ -65,7 +65,7 @@ computed =
     ∷ (memberCall hashOf v1 second 1 3 made.third made.member .number ∷ [], 8 ∷ [])
     ∷ []
 
-pub agree : List (Bytes × Bytes) → Bool
+unfoldable pub agree : List (Bytes × Bytes) → Bool
 agree [] = true
 agree (r ∷ rs) = same (r .0) (r .1) && agree rs
 
