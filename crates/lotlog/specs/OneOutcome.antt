@@ -1,5 +1,5 @@
 -- ONE OUTCOME, CALL BY CALL: any two outcomes that the statement of a public call allows coincide. This file lists every public call of the library,
--- and every export. A contract says that the answer, and what lent memory holds after the call, told in document 01's terms, are one function of what
+-- and every export. A contract says that the answer, and what lent memory holds after the call, told in the terms of documents 01 and 02, are one function of what
 -- the call was given; `One told o` says that this leaves one answer. Each line cites the one law of rules, or the crate's own citation of it.
 use mathlib.Core.Path.{_≡_, sym, ap, ap₂, _∙_}
 use mathlib.Core.List.{[]}
@@ -35,8 +35,18 @@ use Rattle.advancement.specs.Advances as advancement
 use Rattle.place.specs.Places.{cut}
 use Rattle.dispute.specs.declared.settle.Answer.{Answer}
 use Rattle.dispute.specs.Answers.{outcome, one-answer}
+use Rattle.dictionary.specs.Calls.{handleCall, rootCall, presenceCall, absenceCall, checkPresence, checkAbsence, clashCall}
+use Rattle.handles.specs.Told.{handleTold}
+use Rattle.handles.specs.Told as handles
+use Rattle.trie.specs.Told.{rootTold}
+use Rattle.trie.specs.Told as trie
+use Rattle.prove.specs.Promises as prove
+use Rattle.lookup.specs.Told.{verdictNumber}
+use Rattle.lookup.specs.Told as lookup
+use Rattle.clash.specs.Promises as clash
 use Rattle.lotlog.specs.Exports.{telling, one-told, leaving, one-left, writing, one-wrote, showing, one-showed}
 use Rattle.lotlog.specs.Outcomes.{lotHash, lotStart, lotCount, lotAppend, lotDigestAt, lotAudit, lotHeldStart, lotHeldAt, lotBuildMembership, lotBuildAdvancement, lotCheckMembership, lotCheckAdvancement, lotDispute, lotDiffering}
+use Rattle.lotlog.specs.Recalls.{lotHandle, lotTrieRoot, lotProvePresence, lotProveAbsence, lotCheckPresence, lotCheckAbsence, lotTrieClash}
 
 -- where a crate says that telling loses nothing, answers that are told as one outcome are one
 lossless : {A B : Type 0} (told : A → B) → ((x y : A) → told x ≡ told y → x ≡ y) → (o : B) → One told o
@@ -116,6 +126,29 @@ dispute-dispute e1 p1 e2 p2 i n D b1 b2 =
     (one-answer (x .0) (y .0) (ap (λ (o : Disputed). o .finding) e)) (ap (λ (o : Disputed). (o .first, o .second)) e))
     (disputeCall hashOf v1 e1 p1 e2 p2 i n D b1 b2)
 
+-- ---- the dictionary: handles, trie, prove, lookup, clash
+
+pub handles-handle-of : (key : Bytes) → One handleTold (handleCall hashOf key)
+handles-handle-of = handles.handle-one
+
+pub trie-root : (s : Bytes) → One rootTold (rootCall hashOf s)
+trie-root = trie.root-one
+
+pub prove-presence : (s key out : Bytes) → One prove.outcome (presenceCall hashOf s key out)
+prove-presence = prove.presence-one
+
+pub prove-absence : (s key out : Bytes) → One prove.outcome (absenceCall hashOf s key out)
+prove-absence = prove.absence-one
+
+pub lookup-check-presence : (key root p : Bytes) → One verdictNumber (checkPresence hashOf key root p)
+lookup-check-presence = lookup.check-presence-one
+
+pub lookup-check-absence : (key root p : Bytes) → One verdictNumber (checkAbsence hashOf key root p)
+lookup-check-absence = lookup.check-absence-one
+
+pub clash-clash : (key root p q b1 b2 : Bytes) → One clash.outcome (clashCall hashOf key root p q b1 b2)
+clash-clash = clash.clash-one
+
 -- ---- the exports: the number returned, the numbers of `answer`, and lent memory
 
 pub lot-hash : (m d : Bytes) → One leaving (lotHash m d)
@@ -159,3 +192,24 @@ lot-dispute e1 p1 e2 p2 i n D b1 b2 = one-showed (lotDispute e1 p1 e2 p2 i n D b
 
 pub lot-differing : (p q : Bytes) (i n : ℕ) → One telling (lotDiffering p q i n)
 lot-differing p q i n = one-told (lotDiffering p q i n)
+
+pub lot-handle : (key d : Bytes) → One leaving (lotHandle key d)
+lot-handle key d = one-left (lotHandle key d)
+
+pub lot-trie-root : (s d : Bytes) → One leaving (lotTrieRoot s d)
+lot-trie-root s d = one-left (lotTrieRoot s d)
+
+pub lot-prove-presence : (s key out : Bytes) → One writing (lotProvePresence s key out)
+lot-prove-presence s key out = one-wrote (lotProvePresence s key out)
+
+pub lot-prove-absence : (s key out : Bytes) → One writing (lotProveAbsence s key out)
+lot-prove-absence s key out = one-wrote (lotProveAbsence s key out)
+
+pub lot-check-presence : (key root p : Bytes) → OneOf (lotCheckPresence key root p)
+lot-check-presence key root p = one-of (lotCheckPresence key root p)
+
+pub lot-check-absence : (key root p : Bytes) → OneOf (lotCheckAbsence key root p)
+lot-check-absence key root p = one-of (lotCheckAbsence key root p)
+
+pub lot-trie-clash : (key root p q b1 b2 : Bytes) → One showing (lotTrieClash key root p q b1 b2)
+lot-trie-clash key root p q b1 b2 = one-showed (lotTrieClash key root p q b1 b2)

@@ -1,5 +1,5 @@
-// 01's numbers: what each call answers, for a caller that has numbers alone. With the number goes one more: the count, the proof's length, the hops
-// found good, or the wrong element.
+// The numbers of documents 01 and 02: what each call answers, for a caller that has numbers alone. With the number goes one more: the count, the proof's
+// length, the hops found good, or the wrong element.
 ghost use mathlib.Core.Path.{_≡_};
 ghost use Rattle.store.specs.Told as read;
 ghost use Rattle.audit.specs.Told.{auditTold};
@@ -7,15 +7,21 @@ ghost use Rattle.build.specs.Told.{builtTold};
 ghost use Rattle.rules.specs.Calls.{memberAnswer};
 ghost use Rattle.membership.specs.Verdicts.{verdictOf};
 ghost use Rattle.advancement.specs.Advancing.{answerOf};
+ghost use Rattle.handles.specs.Told.{handleNumber};
+ghost use Rattle.trie.specs.Told.{rootNumber};
+ghost use Rattle.prove.specs.Told as prove;
+ghost use Rattle.lookup.specs.Told.{verdictNumber};
 ghost use Rattle.numbers.specs.Saying.{Says};
 use advancement::Advance;
 use audit::Audited;
 use build::Built;
+use handles::HandleAnswer;
 use membership::Verdict;
 use store::Appended;
 use store::Counted;
 use store::Found;
 use store::Started;
+use trie::RootAnswer;
 
 // 01's number, and the number given with it.
 pub struct Said {
@@ -122,5 +128,50 @@ pub fn advanced(v: Advance) -> Said
         Advance::RowDiffers { hops } => say(9, hops),
         Advance::LinkDiffers { hops } => say(10, hops),
         Advance::DigestDiffers { hops } => say(11, hops),
+    }
+}
+
+// The number of what asking for a key's handle comes to.
+pub fn handled(a: HandleAnswer) -> u64
+    ensures { λ r. ⌜ r ≡ handleNumber a ⌝ }
+{
+    match a {
+        HandleAnswer::Done => 0,
+        HandleAnswer::KeyTooLong => 3,
+    }
+}
+
+// The number of what asking for a root comes to.
+pub fn rooted(a: RootAnswer) -> u64
+    ensures { λ r. ⌜ r ≡ rootNumber a ⌝ }
+{
+    match a {
+        RootAnswer::Done => 0,
+        RootAnswer::ListRefused => 14,
+    }
+}
+
+// The number and the proof's length.
+pub fn shown(b: prove::Built) -> Said
+    ensures { λ r. ⌜ Says r (prove.builtTold b) ⌝ }
+{
+    match b {
+        prove::Built::Written { size } => say(0, size),
+        prove::Built::KeyTooLong => say(3, 0),
+        prove::Built::ListRefused => say(14, 0),
+        prove::Built::OtherKind => say(15, 0),
+        prove::Built::OutputShort => say(6, 0),
+    }
+}
+
+// The number of a verdict on a proof of presence or absence.
+pub fn looked_up(v: lookup::Verdict) -> u64
+    ensures { λ r. ⌜ r ≡ verdictNumber v ⌝ }
+{
+    match v {
+        lookup::Verdict::Accepted => 0,
+        lookup::Verdict::KeyTooLong => 3,
+        lookup::Verdict::WrongLength => 16,
+        lookup::Verdict::RootDiffers => 17,
     }
 }
