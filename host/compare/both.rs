@@ -7,7 +7,7 @@ use std::marker::PhantomData;
 
 use lotlog::{Answer, Digest, Held, Side};
 
-use crate::calls::{AdvanceCalls, HashCalls, MemberCalls, StoreCalls};
+use crate::calls::{AdvanceCalls, HashCalls, MemberCalls, StoreCalls, TrieCalls};
 use crate::second_calls::Second;
 
 /// What lent memory holds before a call that is to write it.
@@ -245,4 +245,99 @@ impl<C: AdvanceCalls> Both<C> {
         ours.must_be(&wanted, call);
         (wanted_answer, wanted)
     }
+}
+
+impl<C: TrieCalls> Both<C> {
+    pub fn handle(&mut self, key: &[u8]) -> (u64, Digest) {
+        let mut wanted = [BEFORE; 32];
+        let mut ours = Lent::of(&wanted);
+        let number = C::handle(key, ours.lend_array());
+        let wanted_number = Second::handle(key, &mut wanted);
+        let call = || format!("handle of a key of {} bytes", key.len());
+        self.agree(number, wanted_number, call);
+        ours.must_be(&wanted, call);
+        (wanted_number, wanted)
+    }
+
+    pub fn trie_root(&mut self, handles: &[u8]) -> (u64, Digest) {
+        let mut wanted = [BEFORE; 32];
+        let mut ours = Lent::of(&wanted);
+        let number = C::trie_root(handles, ours.lend_array());
+        let wanted_number = Second::trie_root(handles, &mut wanted);
+        let call = || format!("root of {} bytes of handles", handles.len());
+        self.agree(number, wanted_number, call);
+        ours.must_be(&wanted, call);
+        (wanted_number, wanted)
+    }
+
+    /// Builds into an output of `room` bytes; returns the answer and the output.
+    pub fn prove_presence(&mut self, handles: &[u8], key: &[u8], room: usize) -> (Answer, Vec<u8>) {
+        let mut wanted = vec![BEFORE; room];
+        let mut ours = Lent::of(&wanted);
+        let answer = C::prove_presence(handles, key, ours.lend());
+        let wanted_answer = Second::prove_presence(handles, key, &mut wanted);
+        let call = || proving("presence", handles, key, room);
+        self.agree(answer, wanted_answer, call);
+        ours.must_be(&wanted, call);
+        (wanted_answer, wanted)
+    }
+
+    /// Builds into an output of `room` bytes; returns the answer and the output.
+    pub fn prove_absence(&mut self, handles: &[u8], key: &[u8], room: usize) -> (Answer, Vec<u8>) {
+        let mut wanted = vec![BEFORE; room];
+        let mut ours = Lent::of(&wanted);
+        let answer = C::prove_absence(handles, key, ours.lend());
+        let wanted_answer = Second::prove_absence(handles, key, &mut wanted);
+        let call = || proving("absence", handles, key, room);
+        self.agree(answer, wanted_answer, call);
+        ours.must_be(&wanted, call);
+        (wanted_answer, wanted)
+    }
+
+    pub fn check_presence(&mut self, key: &[u8], root: &Digest, proof: &[u8]) -> u64 {
+        let number = C::check_presence(key, root, proof);
+        let wanted = Second::check_presence(key, root, proof);
+        self.agree(number, wanted, || {
+            format!("check of presence, key of {}, proof of {}", key.len(), proof.len())
+        });
+        wanted
+    }
+
+    pub fn check_absence(&mut self, key: &[u8], root: &Digest, proof: &[u8]) -> u64 {
+        let number = C::check_absence(key, root, proof);
+        let wanted = Second::check_absence(key, root, proof);
+        self.agree(number, wanted, || {
+            format!("check of absence, key of {}, proof of {}", key.len(), proof.len())
+        });
+        wanted
+    }
+
+    /// Looks for a clash with two buffers of these lengths.
+    pub fn trie_clash(
+        &mut self,
+        key: &[u8],
+        root: &Digest,
+        presence: &[u8],
+        absence: &[u8],
+        rooms: [usize; 2],
+    ) -> Answer {
+        let [mut first, mut second] = rooms.map(|room| vec![BEFORE; room]);
+        let (mut our_first, mut our_second) = (Lent::of(&first), Lent::of(&second));
+        let out = [our_first.lend(), our_second.lend()];
+        let answer = C::trie_clash(key, root, presence, absence, out);
+        let wanted = Second::trie_clash(key, root, presence, absence, [&mut first, &mut second]);
+        let call = || {
+            let lengths = (presence.len(), absence.len());
+            format!("clash of proofs of {:?}, key of {}, rooms of {:?}", lengths, key.len(), rooms)
+        };
+        self.agree(answer, wanted, call);
+        our_first.must_be(&first, call);
+        our_second.must_be(&second, call);
+        wanted
+    }
+}
+
+fn proving(kind: &str, handles: &[u8], key: &[u8], room: usize) -> String {
+    let (bytes, length) = (handles.len(), key.len());
+    format!("{} among {} bytes of handles, key of {}, room of {}", kind, bytes, length, room)
 }

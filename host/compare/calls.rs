@@ -31,3 +31,20 @@ pub trait AdvanceCalls {
     fn build_advancement(store: &[u8], i: u64, n: u64, out: &mut [u8]) -> Answer;
     fn check_advancement(held: &mut Held, n: u64, digest: &Digest, proof: &[u8]) -> Answer;
 }
+
+/// The dictionary: handles, root, both kinds of proof, clashes.
+pub trait TrieCalls {
+    fn handle(key: &[u8], handle: &mut Digest) -> u64;
+    fn trie_root(handles: &[u8], root: &mut Digest) -> u64;
+    fn prove_presence(handles: &[u8], key: &[u8], out: &mut [u8]) -> Answer;
+    fn prove_absence(handles: &[u8], key: &[u8], out: &mut [u8]) -> Answer;
+    fn check_presence(key: &[u8], root: &Digest, proof: &[u8]) -> u64;
+    fn check_absence(key: &[u8], root: &Digest, proof: &[u8]) -> u64;
+    fn trie_clash(
+        key: &[u8],
+        root: &Digest,
+        presence: &[u8],
+        absence: &[u8],
+        out: [&mut [u8]; 2],
+    ) -> Answer;
+}

@@ -1,11 +1,11 @@
 //! Compares the proved library with the second program, call by call.
 //!
-//! Both get the same arguments. What is compared is all that a caller can see: document 01's
-//! number, the numbers beside it, and every byte of lent memory after the call, with guard bytes
-//! around it. The calls come in groups (`hash`, `store`, `member`, `advance`) and all together
-//! (`whole`), and a group is a function over any implementation of its trait. So the second program
-//! can be held to itself, and to faulty copies of itself, each of which a group must notice
-//! (`faulty`).
+//! Both get the same arguments. What is compared is all that a caller can see: the number of
+//! documents 01 and 02, the numbers beside it, and every byte of lent memory after the call, with
+//! guard bytes around it. The calls come in groups (`hash`, `store`, `member`, `advance`, `trie`)
+//! and all together (`whole`), and a group is a function over any implementation of its trait. So
+//! the second program can be held to itself, and to faulty copies of itself, each of which a group
+//! must notice (`faulty`).
 //!
 //! A difference panics with the call and its arguments.
 
@@ -24,6 +24,7 @@ pub mod member;
 pub mod random;
 pub mod second_calls;
 pub mod store;
+pub mod trie;
 pub mod whole;
 
 /// How much a group tries: all that it is for, or a small part for the harness's own test.

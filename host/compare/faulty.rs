@@ -3,8 +3,11 @@
 //! Among the faults are the slips that document 01 has seen elsewhere.
 
 use lotlog::{Answer, Digest, Held, Side};
+use second::hash::{Hash, Sha256};
+use second::trie::climbed;
+use second::{message, ENTRY_MOST};
 
-use crate::calls::{AdvanceCalls, HashCalls, MemberCalls, StoreCalls};
+use crate::calls::{AdvanceCalls, HashCalls, MemberCalls, StoreCalls, TrieCalls};
 use crate::second_calls::Second;
 
 /// The second program with one of the faults below.
@@ -33,6 +36,26 @@ pub const FORGETS_THE_TOP_ROW: usize = 16;
 pub const NEVER_CHECKS_ROWS: usize = 17;
 pub const KEEPS_A_REFUSED_DIGEST: usize = 18;
 pub const ADVANCES_ONLY_FROM_1: usize = 19;
+pub const HASHES_A_LONG_KEY: usize = 20;
+pub const TAKES_A_REPEATED_HANDLE: usize = 21;
+pub const SORTS_THE_LIST: usize = 22;
+pub const TAKES_1001_HANDLES: usize = 23;
+pub const TAKES_A_BROKEN_HANDLE: usize = 24;
+pub const ROOM_BEFORE_THE_KIND: usize = 25;
+pub const LIST_BEFORE_THE_KEY: usize = 26;
+pub const BUILDS_A_FALSE_ABSENCE: usize = 27;
+pub const SIBLINGS_FROM_THE_LEAF: usize = 28;
+pub const ABSENCE_ONE_TOO_LONG: usize = 29;
+pub const WRITES_WHAT_FITS: usize = 30;
+pub const LAST_BIT_FIRST: usize = 31;
+pub const SIDES_SWAPPED: usize = 32;
+pub const TAIL_OF_SIBLINGS_IGNORED: usize = 33;
+pub const TAKES_ANY_ROOT: usize = 34;
+pub const TWO_EMPTY_SIDES_STAY_EMPTY: usize = 35;
+pub const ABSENCE_NEEDS_A_SIBLING: usize = 36;
+pub const NAMES_THE_ABSENCE: usize = 37;
+pub const PROOFS_BEFORE_THE_BUFFERS: usize = 38;
+pub const PART_OF_A_SIBLING_IGNORED: usize = 39;
 
 impl<const FAULT: usize> HashCalls for Faulty<FAULT> {
     fn hash(message: &[u8], digest: &mut Digest) -> u64 {
@@ -165,5 +188,134 @@ impl<const FAULT: usize> AdvanceCalls for Faulty<FAULT> {
             _ => (),
         }
         answer
+    }
+}
+
+/// The 32-byte parts of a list or a proof; what is left over is not among them.
+fn parts(bytes: &[u8]) -> Vec<Digest> {
+    bytes.chunks_exact(32).map(|part| part.try_into().expect("32 bytes")).collect()
+}
+
+/// A presence proof checked by other turns at the inner nodes: those of another handle.
+fn checked_along(way: impl Fn(Digest) -> Digest, key: &[u8], root: &Digest, proof: &[u8]) -> u64 {
+    let mut handle = [0; 32];
+    Second::handle(key, &mut handle);
+    let leaf = Sha256::of(&message::leaf(&handle));
+    let reached = climbed::<Sha256>(&way(handle), leaf, &parts(proof));
+    if reached == *root {
+        0
+    } else {
+        17
+    }
+}
+
+impl<const FAULT: usize> Faulty<FAULT> {
+    /// The faults in proving either kind.
+    fn proved(answer: Answer, handles: &[u8], out: &mut [u8]) -> Answer {
+        match (FAULT, answer.number) {
+            (ROOM_BEFORE_THE_KIND, 15) if out.is_empty() => return Answer { number: 6, ..answer },
+            (LIST_BEFORE_THE_KEY, 3) if handles.len() % 32 != 0 => {
+                return Answer { number: 14, ..answer }
+            }
+            (WRITES_WHAT_FITS, 6) => out.fill(0),
+            (SIBLINGS_FROM_THE_LEAF, 0) => {
+                let proof = &mut out[..answer.beside[0] as usize];
+                let mut siblings = parts(proof);
+                siblings.reverse();
+                proof.copy_from_slice(&siblings.concat());
+            }
+            _ => (),
+        }
+        answer
+    }
+}
+
+impl<const FAULT: usize> TrieCalls for Faulty<FAULT> {
+    fn handle(key: &[u8], handle: &mut Digest) -> u64 {
+        if FAULT == HASHES_A_LONG_KEY && key.len() == ENTRY_MOST + 1 {
+            *handle = Sha256::of(&message::key(key));
+            return 0;
+        }
+        Second::handle(key, handle)
+    }
+
+    fn trie_root(handles: &[u8], root: &mut Digest) -> u64 {
+        let mut list = parts(handles);
+        match FAULT {
+            TAKES_A_REPEATED_HANDLE if handles.len() % 32 == 0 => list.dedup(),
+            SORTS_THE_LIST if handles.len() % 32 == 0 => list.sort_unstable(),
+            TAKES_1001_HANDLES if list.len() == 1001 => list.truncate(1000),
+            TAKES_A_BROKEN_HANDLE => (),
+            _ => return Second::trie_root(handles, root),
+        }
+        Second::trie_root(&list.concat(), root)
+    }
+
+    fn prove_presence(handles: &[u8], key: &[u8], out: &mut [u8]) -> Answer {
+        Self::proved(Second::prove_presence(handles, key, out), handles, out)
+    }
+
+    fn prove_absence(handles: &[u8], key: &[u8], out: &mut [u8]) -> Answer {
+        let answer = Second::prove_absence(handles, key, out);
+        let end = answer.beside[0] as usize;
+        match (FAULT, answer.number) {
+            (BUILDS_A_FALSE_ABSENCE, 15) => Second::prove_presence(handles, key, out),
+            (ABSENCE_ONE_TOO_LONG, 0) if out.len() >= end + 32 => {
+                out[end..end + 32].fill(0);
+                Answer { beside: [answer.beside[0] + 32, 0, 0], ..answer }
+            }
+            _ => Self::proved(answer, handles, out),
+        }
+    }
+
+    fn check_presence(key: &[u8], root: &Digest, proof: &[u8]) -> u64 {
+        let number = Second::check_presence(key, root, proof);
+        match (FAULT, number) {
+            (LAST_BIT_FIRST, 0 | 17) => {
+                checked_along(|handle| handle.map(u8::reverse_bits), key, root, proof)
+            }
+            (SIDES_SWAPPED, 0 | 17) => {
+                checked_along(|handle| handle.map(|byte| !byte), key, root, proof)
+            }
+            (TAIL_OF_SIBLINGS_IGNORED, 16) if proof.len() > 8192 => {
+                Second::check_presence(key, root, &proof[..8192])
+            }
+            _ => number,
+        }
+    }
+
+    fn check_absence(key: &[u8], root: &Digest, proof: &[u8]) -> u64 {
+        let number = Second::check_absence(key, root, proof);
+        match FAULT {
+            TAKES_ANY_ROOT if number == 17 => 0,
+            ABSENCE_NEEDS_A_SIBLING if number != 3 && proof.is_empty() => 16,
+            PART_OF_A_SIBLING_IGNORED => Second::check_absence(key, root, &parts(proof).concat()),
+            TWO_EMPTY_SIDES_STAY_EMPTY if number != 16 => {
+                let mut siblings = parts(proof);
+                while siblings.last() == Some(&[0; 32]) {
+                    siblings.pop();
+                }
+                Second::check_absence(key, root, &siblings.concat())
+            }
+            _ => number,
+        }
+    }
+
+    fn trie_clash(
+        key: &[u8],
+        root: &Digest,
+        presence: &[u8],
+        absence: &[u8],
+        out: [&mut [u8]; 2],
+    ) -> Answer {
+        let answer = Second::trie_clash(key, root, presence, absence, out);
+        match (FAULT, answer.number) {
+            (NAMES_THE_ABSENCE, 13) => Answer { beside: [2, 0, 0], ..answer },
+            (PROOFS_BEFORE_THE_BUFFERS, 6) => {
+                let (mut first, mut second) = ([0; 65], [0; 65]);
+                Second::trie_clash(key, root, presence, absence, [&mut first, &mut second])
+            }
+            _ => answer,
+        }
     }
 }

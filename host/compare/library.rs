@@ -5,7 +5,7 @@
 
 use lotlog::{Answer, Digest, Held, Side};
 
-use crate::calls::{AdvanceCalls, HashCalls, MemberCalls, StoreCalls};
+use crate::calls::{AdvanceCalls, HashCalls, MemberCalls, StoreCalls, TrieCalls};
 
 /// The proved library.
 pub enum Library {}
@@ -85,5 +85,48 @@ impl AdvanceCalls for Library {
     #[inline]
     fn check_advancement(held: &mut Held, n: u64, digest: &Digest, proof: &[u8]) -> Answer {
         lotlog::check_advancement(held, n, digest, proof)
+    }
+}
+
+impl TrieCalls for Library {
+    #[inline]
+    fn handle(key: &[u8], handle: &mut Digest) -> u64 {
+        lotlog::handle(key, handle)
+    }
+
+    #[inline]
+    fn trie_root(handles: &[u8], root: &mut Digest) -> u64 {
+        lotlog::trie_root(handles, root)
+    }
+
+    #[inline]
+    fn prove_presence(handles: &[u8], key: &[u8], out: &mut [u8]) -> Answer {
+        lotlog::prove_presence(handles, key, out)
+    }
+
+    #[inline]
+    fn prove_absence(handles: &[u8], key: &[u8], out: &mut [u8]) -> Answer {
+        lotlog::prove_absence(handles, key, out)
+    }
+
+    #[inline]
+    fn check_presence(key: &[u8], root: &Digest, proof: &[u8]) -> u64 {
+        lotlog::check_presence(key, root, proof)
+    }
+
+    #[inline]
+    fn check_absence(key: &[u8], root: &Digest, proof: &[u8]) -> u64 {
+        lotlog::check_absence(key, root, proof)
+    }
+
+    #[inline]
+    fn trie_clash(
+        key: &[u8],
+        root: &Digest,
+        presence: &[u8],
+        absence: &[u8],
+        out: [&mut [u8]; 2],
+    ) -> Answer {
+        lotlog::trie_clash(key, root, presence, absence, out)
     }
 }

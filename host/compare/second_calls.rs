@@ -4,9 +4,10 @@ use lotlog::{Answer, Digest, Held, Side};
 use second::dispute::{self, Found};
 use second::hash::{self, Sha256};
 use second::refusal;
+use second::trie::{self, Shown};
 use second::{held, proof, store};
 
-use crate::calls::{AdvanceCalls, HashCalls, MemberCalls, StoreCalls};
+use crate::calls::{AdvanceCalls, HashCalls, MemberCalls, StoreCalls, TrieCalls};
 
 /// The second program.
 pub enum Second {}
@@ -124,5 +125,45 @@ impl AdvanceCalls for Second {
                 hops
             },
         ))
+    }
+}
+
+impl TrieCalls for Second {
+    fn handle(key: &[u8], handle: &mut Digest) -> u64 {
+        lent(trie::handle::<Sha256>(key), handle)
+    }
+
+    fn trie_root(handles: &[u8], root: &mut Digest) -> u64 {
+        lent(trie::root::<Sha256>(handles), root)
+    }
+
+    fn prove_presence(handles: &[u8], key: &[u8], out: &mut [u8]) -> Answer {
+        one_number(trie::prove_presence::<Sha256>(handles, key, out))
+    }
+
+    fn prove_absence(handles: &[u8], key: &[u8], out: &mut [u8]) -> Answer {
+        one_number(trie::prove_absence::<Sha256>(handles, key, out))
+    }
+
+    fn check_presence(key: &[u8], root: &Digest, proof: &[u8]) -> u64 {
+        lent(trie::check_presence::<Sha256>(key, root, proof), &mut ())
+    }
+
+    fn check_absence(key: &[u8], root: &Digest, proof: &[u8]) -> u64 {
+        lent(trie::check_absence::<Sha256>(key, root, proof), &mut ())
+    }
+
+    fn trie_clash(
+        key: &[u8],
+        root: &Digest,
+        presence: &[u8],
+        absence: &[u8],
+        out: [&mut [u8]; 2],
+    ) -> Answer {
+        let shown = trie::clash::<Sha256>(key, root, presence, absence, out);
+        numbers(shown.map(|shown| match shown {
+            Shown::Pair(first, second) => [0, first, second],
+            Shown::Zeros(length) => [1, length, 0],
+        }))
     }
 }

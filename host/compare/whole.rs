@@ -9,11 +9,12 @@ use second::ENTRY_MOST;
 
 use crate::advance::Step;
 use crate::both::Both;
-use crate::calls::{AdvanceCalls, HashCalls, MemberCalls, StoreCalls};
+use crate::calls::{AdvanceCalls, HashCalls, MemberCalls, StoreCalls, TrieCalls};
 use crate::damage::spoiled;
 use crate::logs::{read, sound};
 use crate::member::Claim;
 use crate::random::Random;
+use crate::trie;
 
 /// The lengths of the logs that the calls work on. They leave room for elements, or do not.
 const LOGS: [(u64, u64); 9] =
@@ -22,14 +23,15 @@ const LOGS: [(u64, u64); 9] =
 /// Makes so many random calls or a few more.
 pub fn run<C>(both: &mut Both<C>, seed: u64, calls: u64)
 where
-    C: HashCalls + StoreCalls + MemberCalls + AdvanceCalls,
+    C: HashCalls + StoreCalls + MemberCalls + AdvanceCalls + TrieCalls,
 {
     let stores = LOGS.map(|(elements, room)| sound(elements, room));
     let mut random = Random::new(seed);
+    let claims = trie::claims(&mut random);
     let enough = both.calls + calls;
     while both.calls < enough {
         let store = &stores[random.place(stores.len())];
-        match random.below(24) {
+        match random.below(25) {
             0 => hash(both, &mut random),
             1 => start(both, store, &mut random),
             2 | 3 => look(both, store, &mut random),
@@ -38,6 +40,7 @@ where
             8 | 9 => build_advancement(both, store, &mut random),
             10..=14 => check_membership(both, store, &mut random),
             15..=19 => check_advancement(both, store, &mut random),
+            20 => trie::any_call(both, &claims, &mut random),
             _ => dispute(both, store, &mut random),
         }
     }

@@ -5,11 +5,11 @@
  * needs memcpy, memmove and memset, from the C library or of your own, and nothing else. No call
  * allocates, keeps a pointer or touches anything but what it is lent.
  *
- * Every call returns a number of document 01: 0 for done, else the refusal.
+ * Every call returns a number of documents 01 and 02: 0 for done, else the refusal.
  *
  *    1  store under 16 bytes, wrong header, or damage in the state bytes or their order
  *    2  held state over the limit, a free row not zero, or count 0 with a digest that is not T(0)
- *    3  entry over 4,096 bytes; message over 65,536 bytes
+ *    3  entry or key over 4,096 bytes; message over 65,536 bytes
  *    4  no such position or length
  *    5  no open record, or the log is full
  *    6  lent output too short
@@ -19,17 +19,21 @@
  *   10  link differs
  *   11  last digest differs
  *   12  audit: an element's T is wrong
- *   13  dispute: a proof is not accepted
+ *   13  dispute, clash: a proof is not accepted
+ *   14  list of handles broken (no multiple of 32 bytes), not rising, or over 1,000 handles
+ *   15  presence asked of a key that is absent, or absence of one that is present
+ *   16  trie proof: not 256 siblings (presence), or not 0 to 256 whole ones (absence)
+ *   17  root differs
  *
- * Lent memory. A refused call leaves every store, digest, held state, output and buffer as it was.
- * `answer` is no lent memory in that sense: it is written whole by each call that takes it, with 0
- * where nothing is to be said.
+ * Lent memory. A refused call leaves every store, digest, handle, root, held state, output and buffer
+ * as it was. `answer` is no lent memory in that sense: it is written whole by each call that takes it,
+ * with 0 where nothing is to be said.
  *
  * Pointers. A pointer with a length n must be good for n bytes; with length 0 any pointer will do, NULL
- * too. Every other NULL is the caller's fault and is not noticed: a digest, a held state or `answer`
- * that is NULL, or NULL with another length. A `uint8_t x[32]` must be good for 32 bytes, `answer` for
- * 24. Memory that a call may write must not be lent to it twice. No pointer need be aligned, `answer`
- * neither.
+ * too. Every other NULL is the caller's fault and is not noticed: a digest, a handle, a root, a held
+ * state or `answer` that is NULL, or NULL with another length. A `uint8_t x[32]` must be good for 32
+ * bytes, `answer` for 24. Memory that a call may write must not be lent to it twice. No pointer need be
+ * aligned, `answer` neither.
  *
  * Numbers. Positions count from 1: the first lot is element 1 of the log, and it stands in record 0 of
  * the store. Length 0 is the log before its first lot. The store holds no entries, only their digests:
@@ -42,6 +46,14 @@
  *   component   of element j with f trailing zero bits: d, T(j-1), T(j-2), T(j-4) .. T(j-2^f)
  *   proof       membership (i, n): the components of the path from i to n, both included;
  *               advancement: the same without i
+ *
+ * The dictionary. A trie of depth 256 shows under one root which keys are present and which are absent.
+ * A key's handle is SHA-256 of 03 and the key; its bits are the way from the root, most significant
+ * first, 0 to the left and 1 to the right. A full leaf is SHA-256 of 04 and the handle, an inner node
+ * SHA-256 of 05, left, right; any empty subtree is 32 zero bytes, the root of no handles too.
+ *   handles     0 to 1,000 handles of 32 bytes, strictly rising byte by byte
+ *   trie proof  the siblings of the nodes on the key's way, 32 bytes each, from the root down: 256 for
+ *               presence; for absence those down to the first empty node, none if the root is empty
  */
 #ifndef LOTLOG_H
 #define LOTLOG_H
@@ -64,6 +76,9 @@ extern "C" {
 #define LOT_PROOF_MOST 14048      /* the longest proof, in bytes */
 #define LOT_DISPUTE_LEAST 4097    /* the least room of a dispute's buffer, in bytes */
 #define LOT_APPEND_WHOLE 65       /* the `stop` of an append that is not cut */
+#define LOT_HANDLES_MOST 1000     /* the most handles of a list */
+#define LOT_TRIE_PROOF_MOST 8192  /* the longest trie proof, and every one of presence, in bytes */
+#define LOT_CLASH_LEAST 65        /* the least room of a clash's buffer, in bytes */
 
 /* The bytes of a store with room for so many elements. */
 #define LOT_STORE_BYTES(room) \
@@ -139,6 +154,42 @@ uint64_t lot_build_advancement(const uint8_t *store, size_t store_length, uint64
    is accepted. Refusals: 2, 4, 7, 9, 10, 11. Answer: the hops found good, with 9, 10 and 11 too. */
 uint64_t lot_check_advancement(uint8_t held[688], uint64_t n, const uint8_t digest[32],
                                const uint8_t *proof, size_t proof_length, uint64_t answer[3]);
+
+/* The handle of a key. Refusals: 3. */
+uint64_t lot_handle(const uint8_t *key, size_t key_length, uint8_t handle[32]);
+
+/* The root of the trie of these handles. Refusals: 14. */
+uint64_t lot_trie_root(const uint8_t *handles, size_t handles_length, uint8_t root[32]);
+
+/* Builds the proof that the key is present among the handles, at the start of `out`; what lies after it
+   stays. Refusals: 3, 14, 15, 6, in this order. Answer: the proof's length in bytes. */
+uint64_t lot_prove_presence(const uint8_t *handles, size_t handles_length, const uint8_t *key,
+                            size_t key_length, uint8_t *out, size_t out_length, uint64_t answer[3]);
+
+/* Builds the proof that the key is absent among the handles, at the start of `out`; what lies after it
+   stays. Refusals: 3, 14, 15, 6, in this order. Answer: the proof's length in bytes. */
+uint64_t lot_prove_absence(const uint8_t *handles, size_t handles_length, const uint8_t *key,
+                           size_t key_length, uint8_t *out, size_t out_length, uint64_t answer[3]);
+
+/* Checks that the key is present under the root. Refusals: 3, 16, 17. */
+uint64_t lot_check_presence(const uint8_t *key, size_t key_length, const uint8_t root[32],
+                            const uint8_t *proof, size_t proof_length);
+
+/* Checks that the key is absent under the root. Each step is hashed as an inner node, even over two
+   empty sides: so a root that no list gives may be accepted. Refusals: 3, 16, 17. */
+uint64_t lot_check_absence(const uint8_t *key, size_t key_length, const uint8_t root[32],
+                           const uint8_t *proof, size_t proof_length);
+
+/* Given an accepted presence and an accepted absence for one key and root: writes two different
+   messages of equal hash, the presence's to `first_out` and the absence's to `second_out`; or one
+   message whose hash is all zeros, to `first_out`. Refusals: 6 for an output under 65 bytes, 13.
+   Answer: 0 and the two messages' lengths, or 1 and the one message's length; with 13, 1 or 2 for the
+   presence or the absence that is not accepted, 1 if both are not. */
+uint64_t lot_trie_clash(const uint8_t *key, size_t key_length, const uint8_t root[32],
+                        const uint8_t *presence, size_t presence_length,
+                        const uint8_t *absence, size_t absence_length,
+                        uint8_t *first_out, size_t first_out_length,
+                        uint8_t *second_out, size_t second_out_length, uint64_t answer[3]);
 
 #ifdef __cplusplus
 }

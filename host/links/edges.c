@@ -12,11 +12,11 @@
 #include "lotlog.h"
 
 enum {
-    ALIGNED = 16,             /* an aligned address is a multiple of this */
-    GUARD = 16,               /* at least so many bytes guard a piece on each side */
-    FILL = 0xA5,              /* the guards' bytes, and an output's before a call */
-    PIECES = 8,               /* a call is lent no more pieces than this */
-    MOST = LOT_DISPUTE_LEAST, /* nor a longer one */
+    ALIGNED = 16,               /* an aligned address is a multiple of this */
+    GUARD = 16,                 /* at least so many bytes guard a piece on each side */
+    FILL = 0xA5,                /* the guards' bytes, and an output's before a call */
+    PIECES = 8,                 /* a call is lent no more pieces than this */
+    MOST = LOT_TRIE_PROOF_MOST, /* nor a longer one */
     LOG = 7,
     COUNT = 5 /* the log's elements; the second is an entry of no bytes */
 };
@@ -25,6 +25,12 @@ enum {
 static uint8_t entry[200], store[LOT_STORE_BYTES(COUNT + 1)], digest[LOT_DIGEST_BYTES];
 static uint8_t proof[352], changed[352], proof_2[288], advance[192];
 static uint8_t held_2[LOT_HELD_BYTES], held_5[LOT_HELD_BYTES];
+
+/* The material of the trie, where the entry is a key: its handle and another with the last bit turned,
+   both in one list, where it is present; and the other alone, where it is absent by 256 siblings. */
+static uint8_t handle[LOT_DIGEST_BYTES], handles[2 * LOT_DIGEST_BYTES], other[LOT_DIGEST_BYTES];
+static uint8_t root[LOT_DIGEST_BYTES], other_root[LOT_DIGEST_BYTES], empty_root[LOT_DIGEST_BYTES];
+static uint8_t presence[LOT_TRIE_PROOF_MOST], absence[LOT_TRIE_PROOF_MOST];
 
 /* A call as it is made: the pieces that it is lent, and the numbers that it takes. */
 struct lending {
@@ -57,6 +63,13 @@ CALL(held_at, SLICE(0), FIRST, ARRAY(1))
 CALL(held_start, FIRST, ARRAY(0))
 CALL(build_advancement, SLICE(0), BOTH, SLICE(1), ANSWER(2))
 CALL(check_advancement, ARRAY(0), FIRST, ARRAY(1), SLICE(2), ANSWER(3))
+CALL(handle, SLICE(0), ARRAY(1))
+CALL(trie_root, SLICE(0), ARRAY(1))
+CALL(prove_presence, SLICE(0), SLICE(1), SLICE(2), ANSWER(3))
+CALL(prove_absence, SLICE(0), SLICE(1), SLICE(2), ANSWER(3))
+CALL(check_presence, SLICE(0), ARRAY(1), SLICE(2))
+CALL(check_absence, SLICE(0), ARRAY(1), SLICE(2))
+CALL(trie_clash, SLICE(0), ARRAY(1), SLICE(2), SLICE(3), SLICE(4), SLICE(5), ANSWER(6))
 
 /* A piece of lent memory: what it holds before the call, or NULL for an output; its length; and the
    number of the call if this piece is a slice and it alone is empty. */
@@ -74,44 +87,67 @@ struct piece {
 #define FIXED_OUT(length) {AN_ARRAY, NULL, length, 0}
 #define TOLD {AN_ANSWER, NULL, LOT_ANSWER_NUMBERS * sizeof(uint64_t), 0}
 
-/* A call that is done: the numbers that it takes, the first number of its answer, what it is lent. */
+/* What a call of the table returns. The clash alone is not done: under SHA-256 no one can make the two
+   accepted proofs that it takes. So it is refused as late as it can be, when both have been read. */
+enum { DONE = 0, NOT_ACCEPTED = 13 };
+
+/* A call: the numbers that it takes, the number that it returns, the first number of its answer, and
+   what it is lent. */
 struct test {
     const char *name;
     uint64_t (*make)(const struct lending *);
-    uint64_t number[2], told;
+    uint64_t number[2], returned, told;
     struct piece pieces[PIECES];
 };
 
 static const struct test tests[] = {
-    {"hash", call_hash, {0, 0}, 0, {IN(entry, 0), FIXED_OUT(32)}},
-    {"start", call_start, {LOG, 0}, 0, {OUT(sizeof store, 6)}},
-    {"count", call_count, {0, 0}, COUNT, {IN(store, 1), TOLD}},
-    {"append", call_append, {LOT_APPEND_WHOLE, 0}, COUNT + 1, {IN(store, 1), IN(entry, 0), TOLD}},
-    {"digest at", call_digest_at, {COUNT, 0}, 0, {IN(store, 1), FIXED_OUT(32)}},
-    {"audit", call_audit, {0, 0}, COUNT, {IN(store, 1), TOLD}},
-    {"build membership", call_build_membership, {1, COUNT}, sizeof proof,
+    {"hash", call_hash, {0, 0}, DONE, 0, {IN(entry, 0), FIXED_OUT(32)}},
+    {"start", call_start, {LOG, 0}, DONE, 0, {OUT(sizeof store, 6)}},
+    {"count", call_count, {0, 0}, DONE, COUNT, {IN(store, 1), TOLD}},
+    {"append", call_append, {LOT_APPEND_WHOLE, 0}, DONE, COUNT + 1, {IN(store, 1), IN(entry, 0), TOLD}},
+    {"digest at", call_digest_at, {COUNT, 0}, DONE, 0, {IN(store, 1), FIXED_OUT(32)}},
+    {"audit", call_audit, {0, 0}, DONE, COUNT, {IN(store, 1), TOLD}},
+    {"build membership", call_build_membership, {1, COUNT}, DONE, sizeof proof,
      {IN(store, 1), OUT(sizeof proof, 6), TOLD}},
-    {"check membership", call_check_membership, {1, COUNT}, 3,
+    {"check membership", call_check_membership, {1, COUNT}, DONE, 3,
      {IN(entry, 8), FIXED(digest), IN(proof, 7), TOLD}},
-    {"check membership of no bytes", call_check_membership, {2, COUNT}, 2,
+    {"check membership of no bytes", call_check_membership, {2, COUNT}, DONE, 2,
      {NOTHING, FIXED(digest), IN(proof_2, 7), TOLD}},
-    {"dispute", call_dispute, {1, COUNT}, 1,
-     {IN(entry, 13), IN(proof, 13), IN(entry, 13), IN(proof, 13), FIXED(digest), OUT(MOST, 6),
-      OUT(MOST, 6), TOLD}},
-    {"dispute of no bytes", call_dispute, {2, COUNT}, 1,
-     {NOTHING, IN(proof_2, 13), NOTHING, IN(proof_2, 13), FIXED(digest), OUT(MOST, 6),
-      OUT(MOST, 6), TOLD}},
-    {"differing", call_differing, {1, COUNT}, sizeof proof - 64, {IN(proof, 0), IN(changed, 0), TOLD}},
-    {"held at", call_held_at, {COUNT, 0}, 0, {IN(store, 1), FIXED_OUT(LOT_HELD_BYTES)}},
-    {"held start", call_held_start, {LOG, 0}, 0, {FIXED_OUT(LOT_HELD_BYTES)}},
-    {"build advancement", call_build_advancement, {2, COUNT}, sizeof advance,
+    {"dispute", call_dispute, {1, COUNT}, DONE, 1,
+     {IN(entry, 13), IN(proof, 13), IN(entry, 13), IN(proof, 13), FIXED(digest),
+      OUT(LOT_DISPUTE_LEAST, 6), OUT(LOT_DISPUTE_LEAST, 6), TOLD}},
+    {"dispute of no bytes", call_dispute, {2, COUNT}, DONE, 1,
+     {NOTHING, IN(proof_2, 13), NOTHING, IN(proof_2, 13), FIXED(digest),
+      OUT(LOT_DISPUTE_LEAST, 6), OUT(LOT_DISPUTE_LEAST, 6), TOLD}},
+    {"differing", call_differing, {1, COUNT}, DONE, sizeof proof - 64,
+     {IN(proof, 0), IN(changed, 0), TOLD}},
+    {"held at", call_held_at, {COUNT, 0}, DONE, 0, {IN(store, 1), FIXED_OUT(LOT_HELD_BYTES)}},
+    {"held start", call_held_start, {LOG, 0}, DONE, 0, {FIXED_OUT(LOT_HELD_BYTES)}},
+    {"build advancement", call_build_advancement, {2, COUNT}, DONE, sizeof advance,
      {IN(store, 1), OUT(sizeof advance, 6), TOLD}},
-    {"build advancement of 0 hops", call_build_advancement, {COUNT, COUNT}, 0,
+    {"build advancement of 0 hops", call_build_advancement, {COUNT, COUNT}, DONE, 0,
      {IN(store, 1), NOTHING, TOLD}},
-    {"check advancement", call_check_advancement, {COUNT, 0}, 2,
+    {"check advancement", call_check_advancement, {COUNT, 0}, DONE, 2,
      {FIXED(held_2), FIXED(digest), IN(advance, 7), TOLD}},
-    {"check advancement of 0 hops", call_check_advancement, {COUNT, 0}, 0,
+    {"check advancement of 0 hops", call_check_advancement, {COUNT, 0}, DONE, 0,
      {FIXED(held_5), FIXED(digest), NOTHING, TOLD}},
+    {"handle", call_handle, {0, 0}, DONE, 0, {IN(entry, 0), FIXED_OUT(32)}},
+    {"trie root", call_trie_root, {0, 0}, DONE, 0, {IN(handles, 0), FIXED_OUT(32)}},
+    {"prove presence", call_prove_presence, {0, 0}, DONE, sizeof presence,
+     {IN(handles, 15), IN(entry, 15), OUT(sizeof presence, 6), TOLD}},
+    {"prove absence", call_prove_absence, {0, 0}, DONE, sizeof absence,
+     {IN(other, 0), IN(entry, 0), OUT(sizeof absence, 6), TOLD}},
+    {"prove absence of no bytes from nothing", call_prove_absence, {0, 0}, DONE, 0,
+     {NOTHING, NOTHING, NOTHING, TOLD}},
+    {"check presence", call_check_presence, {0, 0}, DONE, 0,
+     {IN(entry, 17), FIXED(root), IN(presence, 16)}},
+    {"check absence", call_check_absence, {0, 0}, DONE, 0,
+     {IN(entry, 17), FIXED(other_root), IN(absence, 17)}},
+    {"check absence of no bytes from nothing", call_check_absence, {0, 0}, DONE, 0,
+     {NOTHING, FIXED(empty_root), NOTHING}},
+    {"trie clash", call_trie_clash, {0, 0}, NOT_ACCEPTED, 2,
+     {IN(entry, 13), FIXED(root), IN(presence, 13), IN(absence, 13), OUT(LOT_CLASH_LEAST, 6),
+      OUT(LOT_CLASH_LEAST, 6), TOLD}},
 };
 
 /* How a call is made: which pieces are empty, NULL and moved, with bit k for piece k. */
@@ -197,7 +233,7 @@ static int misaligned(const struct test *test) {
     static struct outcome aligned;
     struct way way = {0, 0, 0, 0};
     if (!make(test, &way, &aligned)) return 0;
-    if (aligned.number != 0) return wrong(test, &way, "the call is not done");
+    if (aligned.number != test->returned) return wrong(test, &way, "not the number of the table");
     for (int k = 0; k < PIECES; k++)
         if (test->pieces[k].kind == AN_ANSWER && memcmp(aligned.lent[k], &test->told, 8) != 0)
             return wrong(test, &way, "not the answer of the table");
@@ -225,6 +261,24 @@ static int null(const struct test *test) {
     return 1;
 }
 
+/* Makes the material of the trie; returns 0, or what refused. */
+static uint64_t prepare_trie(void) {
+    uint64_t answer[LOT_ANSWER_NUMBERS];
+    uint64_t refused = lot_handle(entry, sizeof entry, handle);
+    memcpy(other, handle, sizeof handle);
+    other[sizeof other - 1] ^= 1;
+    int in_order = memcmp(handle, other, sizeof handle) < 0;
+    memcpy(handles, in_order ? handle : other, sizeof handle);
+    memcpy(handles + sizeof handle, in_order ? other : handle, sizeof handle);
+    refused |= lot_trie_root(handles, sizeof handles, root);
+    refused |= lot_trie_root(other, sizeof other, other_root);
+    refused |= lot_prove_presence(handles, sizeof handles, entry, sizeof entry, presence,
+                                  sizeof presence, answer);
+    refused |= lot_prove_absence(other, sizeof other, entry, sizeof entry, absence, sizeof absence,
+                                 answer);
+    return refused;
+}
+
 /* Makes the material. */
 static int prepare(void) {
     uint64_t answer[LOT_ANSWER_NUMBERS];
@@ -241,6 +295,7 @@ static int prepare(void) {
     refused |= lot_held_at(store, sizeof store, COUNT, held_5);
     memcpy(changed, proof, sizeof proof);
     changed[sizeof changed - 1] ^= 1; /* in the last component, which has 64 bytes */
+    refused |= prepare_trie();
     if (refused != 0) fprintf(stderr, "the material can't be made\n");
     return refused == 0;
 }

@@ -1,9 +1,9 @@
 //! Safe Rust over the proved library: one function for each call of `host/include/lotlog.h`.
 //!
 //! A slice passes as a pointer and a length, an array as a pointer; the borrow rules of Rust see to
-//! what the header asks of a C caller. Every call returns document 01's number, 0 for done, and
-//! where it answers with numbers they stand in [`Answer::beside`]. Positions count from 1. A store
-//! holds the digests of entries and not the entries, which are the caller's to keep.
+//! what the header asks of a C caller. Every call returns a number of documents 01 and 02, 0 for
+//! done, and where it answers with numbers they stand in [`Answer::beside`]. Positions count from
+//! 1. A store holds the digests of entries and not the entries, which are the caller's to keep.
 //!
 //! [`file`] keeps a store in a file, safely. A program links the archive that `host/run library` makes
 //! (README has the line), which needs memcpy, memmove and memset, as every Rust program has them.
@@ -21,6 +21,12 @@ pub const RECORD_BYTES: usize = 65;
 pub const ELEMENTS_MOST: usize = 1_048_575;
 pub const PROOF_MOST: usize = 14_048;
 
+/// The most handles of a list, the most bytes of a trie proof, and the least room of a clash's
+/// buffer.
+pub const HANDLES_MOST: usize = 1_000;
+pub const TRIE_PROOF_MOST: usize = 8_192;
+pub const CLASH_LEAST: usize = 65;
+
 /// The `stop` of a whole append: its last store, of the state byte, closes the record.
 pub const WHOLE: u64 = 65;
 
@@ -30,14 +36,14 @@ pub const fn store_bytes(room: usize) -> usize {
     HEADER_BYTES + RECORD_BYTES * room
 }
 
-/// Document 01's words for a number.
+/// Words for a number of documents 01 and 02.
 #[inline]
 pub fn meaning(number: u64) -> &'static str {
     match number {
         0 => "done",
         1 => "store damaged",
         2 => "held state broken",
-        3 => "entry or message too long",
+        3 => "entry, key or message too long",
         4 => "no such position or length",
         5 => "no open record",
         6 => "lent output too short",
@@ -48,7 +54,11 @@ pub fn meaning(number: u64) -> &'static str {
         11 => "last digest differs",
         12 => "wrong T",
         13 => "proof not accepted",
-        _ => "no number of document 01",
+        14 => "list of handles broken, not rising or too long",
+        15 => "asked kind not true",
+        16 => "trie proof length not that of its kind",
+        17 => "root differs",
+        _ => "no number of documents 01 and 02",
     }
 }
 
@@ -58,7 +68,7 @@ pub type Digest = [u8; 32];
 /// A held state: log number, count (8 bytes each, big-endian), digest, 20 rows.
 pub type Held = [u8; 688];
 
-/// Document 01's number and the numbers beside it.
+/// The number of a call and the numbers beside it.
 #[must_use]
 #[derive(Debug, Clone, Copy, PartialEq, Eq)]
 pub struct Answer {
@@ -144,6 +154,54 @@ mod raw {
             digest: *const u8,
             proof: *const u8,
             proof_length: usize,
+            answer: *mut u64,
+        ) -> u64;
+        pub fn lot_handle(key: *const u8, key_length: usize, handle: *mut u8) -> u64;
+        pub fn lot_trie_root(handles: *const u8, handles_length: usize, root: *mut u8) -> u64;
+        pub fn lot_prove_presence(
+            handles: *const u8,
+            handles_length: usize,
+            key: *const u8,
+            key_length: usize,
+            out: *mut u8,
+            out_length: usize,
+            answer: *mut u64,
+        ) -> u64;
+        pub fn lot_prove_absence(
+            handles: *const u8,
+            handles_length: usize,
+            key: *const u8,
+            key_length: usize,
+            out: *mut u8,
+            out_length: usize,
+            answer: *mut u64,
+        ) -> u64;
+        pub fn lot_check_presence(
+            key: *const u8,
+            key_length: usize,
+            root: *const u8,
+            proof: *const u8,
+            proof_length: usize,
+        ) -> u64;
+        pub fn lot_check_absence(
+            key: *const u8,
+            key_length: usize,
+            root: *const u8,
+            proof: *const u8,
+            proof_length: usize,
+        ) -> u64;
+        pub fn lot_trie_clash(
+            key: *const u8,
+            key_length: usize,
+            root: *const u8,
+            presence: *const u8,
+            presence_length: usize,
+            absence: *const u8,
+            absence_length: usize,
+            first_out: *mut u8,
+            first_out_length: usize,
+            second_out: *mut u8,
+            second_out_length: usize,
             answer: *mut u64,
         ) -> u64;
     }
@@ -317,6 +375,98 @@ pub fn check_advancement(held: &mut Held, n: u64, digest: &Digest, proof: &[u8])
             digest.as_ptr(),
             proof.as_ptr(),
             proof.len(),
+            answer,
+        )
+    })
+}
+
+/// The handle of a key. Refusals: 3.
+#[inline]
+#[must_use]
+pub fn handle(key: &[u8], handle: &mut Digest) -> u64 {
+    unsafe { raw::lot_handle(key.as_ptr(), key.len(), handle.as_mut_ptr()) }
+}
+
+/// The root of the trie of these handles. Refusals: 14.
+#[inline]
+#[must_use]
+pub fn trie_root(handles: &[u8], root: &mut Digest) -> u64 {
+    unsafe { raw::lot_trie_root(handles.as_ptr(), handles.len(), root.as_mut_ptr()) }
+}
+
+/// Builds the proof that a key is present; answers its length. Refusals: 3, 14, 15, 6.
+#[inline]
+pub fn prove_presence(handles: &[u8], key: &[u8], out: &mut [u8]) -> Answer {
+    answered(|answer| unsafe {
+        raw::lot_prove_presence(
+            handles.as_ptr(),
+            handles.len(),
+            key.as_ptr(),
+            key.len(),
+            out.as_mut_ptr(),
+            out.len(),
+            answer,
+        )
+    })
+}
+
+/// Builds the proof that a key is absent; answers its length. Refusals: 3, 14, 15, 6.
+#[inline]
+pub fn prove_absence(handles: &[u8], key: &[u8], out: &mut [u8]) -> Answer {
+    answered(|answer| unsafe {
+        raw::lot_prove_absence(
+            handles.as_ptr(),
+            handles.len(),
+            key.as_ptr(),
+            key.len(),
+            out.as_mut_ptr(),
+            out.len(),
+            answer,
+        )
+    })
+}
+
+/// Checks that a key is present under a root. Refusals: 3, 16, 17.
+#[inline]
+#[must_use]
+pub fn check_presence(key: &[u8], root: &Digest, proof: &[u8]) -> u64 {
+    let (length, bytes) = (key.len(), proof.len());
+    unsafe { raw::lot_check_presence(key.as_ptr(), length, root.as_ptr(), proof.as_ptr(), bytes) }
+}
+
+/// Checks that a key is absent under a root. Refusals: 3, 16, 17.
+#[inline]
+#[must_use]
+pub fn check_absence(key: &[u8], root: &Digest, proof: &[u8]) -> u64 {
+    let (length, bytes) = (key.len(), proof.len());
+    unsafe { raw::lot_check_absence(key.as_ptr(), length, root.as_ptr(), proof.as_ptr(), bytes) }
+}
+
+/// Shows what an accepted presence and an accepted absence for one key and root lead to; answers 0
+/// and the lengths of two different messages of equal hash, or 1 and the length of a message whose
+/// hash is all zeros, and with 13 the proof that is not accepted. Refusals: 6, 13.
+#[inline]
+pub fn trie_clash(
+    key: &[u8],
+    root: &Digest,
+    presence: &[u8],
+    absence: &[u8],
+    out: [&mut [u8]; 2],
+) -> Answer {
+    let [first_out, second_out] = out;
+    answered(|answer| unsafe {
+        raw::lot_trie_clash(
+            key.as_ptr(),
+            key.len(),
+            root.as_ptr(),
+            presence.as_ptr(),
+            presence.len(),
+            absence.as_ptr(),
+            absence.len(),
+            first_out.as_mut_ptr(),
+            first_out.len(),
+            second_out.as_mut_ptr(),
+            second_out.len(),
             answer,
         )
     })

@@ -1,4 +1,7 @@
 //! "When the counter says no": the numbers of the table and what stands beside them.
+//!
+//! 1 to 13 are document 01's. "New refusals, here and later, take the next free numbers in the
+//! order named", says document 02, A1, and names 14 to 17.
 
 /// A refused call: its number in the table, and the number returned beside it.
 ///
@@ -41,6 +44,14 @@ pub const LAST_DIGEST: u64 = 11;
 pub const WRONG_ELEMENT: u64 = 12;
 /// "dispute: a proof is not accepted; 1 or 2 says which, 1 if both"
 pub const NOT_ACCEPTED: u64 = 13;
+/// "list broken, not rising or too long"
+pub const LIST: u64 = 14;
+/// "asked kind not true"
+pub const KIND: u64 = 15;
+/// "proof length not 256 siblings (presence) or not 0 to 256 whole ones (absence)"
+pub const SIBLINGS: u64 = 16;
+/// "root differs"
+pub const ROOT: u64 = 17;
 
 /// A refusal with 0 beside it.
 pub fn refuse<T>(number: u64) -> Answer<T> {

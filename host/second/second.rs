@@ -1,11 +1,12 @@
-//! The second program: document 01 written down once more, from its text alone.
+//! The second program: documents 01 and 02 (A1) written down once more, from their text alone.
 //!
 //! It shares no code with the proved crates and follows another plan: it parses a proof into its
-//! components before it looks at any, keeps paths and messages in vectors, and answers with
-//! `Result`. The comparisons in `host/compare` hold every call of the proved library to it.
+//! components before it looks at any, keeps paths and messages in vectors, forms a trie level by
+//! level from the leaves up, and answers with `Result`. The comparisons in `host/compare` hold
+//! every call of the proved library to it.
 //!
-//! Words in quotation marks are sentences of document 01. Every call is generic over the hash, so
-//! that the stand-in can take the place of SHA-256.
+//! Words in quotation marks are sentences of document 01, and in [`trie`] of document 02. Every
+//! call is generic over the hash, so that the stand-in can take the place of SHA-256.
 
 pub mod dispute;
 pub mod hash;
@@ -16,9 +17,12 @@ pub mod program;
 pub mod proof;
 pub mod refusal;
 pub mod store;
+pub mod trie;
 
 #[cfg(test)]
 mod tests;
+#[cfg(test)]
+mod trie_tests;
 
 /// "A digest is 32 bytes."
 pub type Digest = [u8; 32];

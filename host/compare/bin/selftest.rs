@@ -5,7 +5,7 @@ use std::panic;
 
 use compare::both::Both;
 use compare::faulty::{self, Faulty};
-use compare::{advance, hash, member, store, whole, Scale};
+use compare::{advance, hash, member, store, trie, whole, Scale};
 
 const SEED: u64 = 4;
 const CALLS: u64 = 20_000;
@@ -31,6 +31,7 @@ fn main() {
     store::run(&mut both, Scale::Small);
     member::run(&mut both, Scale::Small);
     advance::run(&mut both, Scale::Small);
+    trie::run(&mut both, Scale::Small);
     whole::run(&mut both, SEED, CALLS);
     panic::set_hook(Box::new(|_| ()));
     let unnoticed = unnoticed! {
@@ -40,7 +41,14 @@ fn main() {
         member: CLEARS_PAST_THE_PROOF IGNORES_A_TAIL TAKES_ANY_ENTRY NO_HOPS_WITH_11
             NAMES_THE_SECOND_PROOF DIFFERING_NEAREST_I;
         advance: FORGETS_THE_TOP_ROW NEVER_CHECKS_ROWS KEEPS_A_REFUSED_DIGEST ADVANCES_ONLY_FROM_1;
-        everything: PADDING_AT_55_BYTES CLOSES_TOO_EARLY IGNORES_A_TAIL NEVER_CHECKS_ROWS;
+        trie: HASHES_A_LONG_KEY TAKES_A_REPEATED_HANDLE SORTS_THE_LIST TAKES_1001_HANDLES
+            TAKES_A_BROKEN_HANDLE ROOM_BEFORE_THE_KIND LIST_BEFORE_THE_KEY BUILDS_A_FALSE_ABSENCE
+            SIBLINGS_FROM_THE_LEAF ABSENCE_ONE_TOO_LONG WRITES_WHAT_FITS LAST_BIT_FIRST
+            SIDES_SWAPPED TAIL_OF_SIBLINGS_IGNORED TAKES_ANY_ROOT TWO_EMPTY_SIDES_STAY_EMPTY
+            ABSENCE_NEEDS_A_SIBLING PART_OF_A_SIBLING_IGNORED NAMES_THE_ABSENCE
+            PROOFS_BEFORE_THE_BUFFERS;
+        everything: PADDING_AT_55_BYTES CLOSES_TOO_EARLY IGNORES_A_TAIL NEVER_CHECKS_ROWS
+            TAKES_ANY_ROOT;
     };
     if !unnoticed.is_empty() {
         eprintln!("faults that were not noticed: {}", unnoticed.join(", "));
@@ -52,11 +60,11 @@ fn main() {
 /// The group `whole` in the shape of the others.
 mod everything {
     use super::*;
-    use compare::calls::{AdvanceCalls, HashCalls, MemberCalls, StoreCalls};
+    use compare::calls::{AdvanceCalls, HashCalls, MemberCalls, StoreCalls, TrieCalls};
 
     pub fn run<C>(both: &mut Both<C>, _: Scale)
     where
-        C: HashCalls + StoreCalls + MemberCalls + AdvanceCalls,
+        C: HashCalls + StoreCalls + MemberCalls + AdvanceCalls + TrieCalls,
     {
         whole::run(both, SEED, CALLS);
     }

@@ -1,4 +1,5 @@
--- Figures of a dictionary of three keys under the stand-in hash, and under another (names that end in 2), made outside Rattle by the program `make` beside this folder.
+-- Figures of a dictionary of three keys, under the stand-in hash and under another (names that end in 2), made outside Rattle by the program `make`
+-- beside this folder.
 use mathlib.Core.List.{[], _∷_, _++_}
 use lib.ListN.{replicate}
 use Rattle.lists.specs.Bytes.{Bytes}

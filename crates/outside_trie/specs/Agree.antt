@@ -11,8 +11,8 @@ use Rattle.dictionary.specs.Handles.{turn, side, rows, flat, risingFrom, listed
 use Rattle.dictionary.specs.Trie.{crossing, subtree, way, climbed}
 use Rattle.dictionary.specs.Meeting.{fullMsg, meeting}
 use Rattle.dictionary.specs.Calls.{Formed, Finding, clashing, zeroed, denied, handleCall, rootCall, proofOf, proveCall, presenceCall, absenceCall, checkPresence, checkAbsence, clashCall}
-use Rattle.outside.specs.MadeTrie as made
 use Rattle.outside.specs.Agree.{agree}
+use Rattle.outside_trie.specs.Made as made
 
 abbrev keyA : Bytes
 keyA = 65 ∷ []
