@@ -3,7 +3,8 @@
 //! The log has number 7 and three entries: the empty one, "A", and the 33 bytes from 0x61 upward.
 //! Its figures stand in figures.txt, first under the stand-in hash and then under SHA-256, so that
 //! the definitions of the proofs can be held to values from outside. Rows of the held state that
-//! are not printed are zero.
+//! are not printed are zero. Beside it stand figures of a dictionary of three keys: the empty one,
+//! "A" and "C". Siblings that are not printed are zero too.
 
 use second::hash::{Hash, Sha256, Xor};
 use second::held::held_of;
@@ -11,6 +12,8 @@ use second::message::entry_digest;
 use second::path::{advancement, membership};
 use second::proof::proof_of;
 use second::store::{store_of, Log};
+use second::trie::{self, Kind, PROOF_MOST};
+use second::Digest;
 
 const LOG: u64 = 7;
 const LAST: u64 = 3;
@@ -46,10 +49,39 @@ fn print_log<H: Hash>(hash: &str) {
     }
 }
 
+fn keys() -> [&'static [u8]; 3] {
+    [b"", b"A", b"C"]
+}
+
+fn print_siblings<H: Hash>(hash: &str, name: &str, kind: Kind, list: &[u8], key: &[u8]) {
+    let mut proof = [0; PROOF_MOST];
+    let length = trie::prove::<H>(kind, list, key, &mut proof).expect("a true kind");
+    print(&format!("{}.{}.length", hash, name), &length.to_be_bytes());
+    for (at, sibling) in proof.chunks(32).enumerate().filter(|(_, row)| **row != [0; 32]) {
+        print(&format!("{}.{}.sibling{}", hash, name, at), sibling);
+    }
+}
+
+fn print_trie<H: Hash>(hash: &str) {
+    let mut handles: Vec<Digest> = Vec::new();
+    for (k, key) in (1..).zip(keys()) {
+        let handle = trie::handle::<H>(key).expect("a short key");
+        print(&format!("{}.handle({})", hash, k), &handle);
+        handles.push(handle);
+    }
+    handles.sort_unstable();
+    let list = handles.concat();
+    print(&format!("{}.root", hash), &trie::root::<H>(&list).expect("a rising list"));
+    print_siblings::<H>(hash, "presence(A)", Kind::Presence, &list, b"A");
+    print_siblings::<H>(hash, "absence(B)", Kind::Absence, &list, b"B");
+}
+
 fn main() {
     for (j, entry) in (1..).zip(entries()) {
         print(&format!("entry({})", j), &entry);
     }
     print_log::<Xor>("standin");
     print_log::<Sha256>("sha256");
+    print_trie::<Xor>("standin");
+    print_trie::<Sha256>("sha256");
 }
