@@ -4,8 +4,13 @@
 //!
 //! Both are compiled for release and for the same processor (`host/env.sh`). The proofs hash every
 //! subtree beside the key's way, which is nearly all of the trie.
+//!
+//! Before that the three calls are made on a stack of 128 KiB, which holds the 257 nodes of a way
+//! whatever the list.
 
 mod timing;
+
+use std::thread;
 
 use lotlog::Digest;
 
@@ -14,6 +19,7 @@ const ROUNDS: usize = 3;
 const DEPTH: usize = 256;
 const PROOF_MOST: usize = 32 * DEPTH;
 const EMPTY: Digest = [0; 32];
+const STACK: usize = 128 << 10;
 
 /// The key of a lot that is in the list, and of one that is not.
 const PRESENT: u64 = 500;
@@ -158,11 +164,25 @@ fn proof_row(name: &str, list: &[u8], prove: Prove, lot: u64, is_present: bool) 
     });
 }
 
+/// Makes the three calls on a small stack. A call that took more would end the program.
+fn on_a_small_stack(list: &[u8]) {
+    let list = list.to_vec();
+    let calls = move || {
+        let mut out = [0; PROOF_MOST];
+        assert_eq!(lotlog::trie_root(&list, &mut [0; 32]), 0);
+        assert_eq!(lotlog::prove_presence(&list, &key(PRESENT), &mut out).number, 0);
+        assert_eq!(lotlog::prove_absence(&list, &key(ABSENT), &mut out).number, 0);
+    };
+    let thread = thread::Builder::new().stack_size(STACK).spawn(calls).expect("a thread");
+    thread.join().expect("calls that are done");
+}
+
 fn main() {
     let mut handles: Vec<Digest> = (1..=HANDLES).map(|lot| handle(&key(lot))).collect();
     handles.sort_unstable();
     let list = handles.concat();
-    println!("{} handles", HANDLES);
+    on_a_small_stack(&list);
+    println!("{} handles, on a stack of {} KiB too", HANDLES, STACK >> 10);
     println!("{:<10} {:>8} {:>12} {:>12} {:>7}", "", "hashes", "proved ms", "plain ms", "ratio");
     root_row(&list);
     proof_row("presence", &list, lotlog::prove_presence, PRESENT, true);

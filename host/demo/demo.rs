@@ -2,20 +2,25 @@
 //! demo-story LOTS FOLDER.
 //!
 //! The house and the practices keep what they have in files of the folder, and read them anew for
-//! each call. A line tells a call and its answer: document 01's number and the number beside it.
-//! The first answer that is not the expected one ends the story with status 1. What is expected is
-//! what document 01 gives for the sample, `host/demo/lots.txt`.
+//! each call. A line tells a call and its answer: its number and the number beside it. The first
+//! answer that is not the expected one ends the story with status 1. What is expected is what
+//! documents 01 and 02 give for the sample, `host/demo/lots.txt`.
 
 use std::path::PathBuf;
 use std::{env, fs, process};
 
-use lotlog::{meaning, store_bytes, Answer, Digest, Held, Side, WHOLE};
+use lotlog::{meaning, store_bytes, Answer, Digest, Held, Side, TRIE_PROOF_MOST, WHOLE};
 
 const LOG: u64 = 7;
 const ROOM: usize = 16;
 
 /// The stores of an append that is cut.
 const CUT: u64 = 40;
+
+/// The lots that were withdrawn, one that was not, and the bytes of the proof of that.
+const WITHDRAWN: [&str; 3] = ["AR-30972", "CB-14877", "SU-27003"];
+const SOUND: &str = "MV-40018";
+const SOUND_PROOF: u64 = 64;
 
 /// A lot in the log.
 #[derive(Clone, Copy)]
@@ -58,9 +63,20 @@ fn tell_named(call: &str, answer: Answer, expected: [u64; 2], name: &str) -> u64
     answer.beside[0]
 }
 
-/// Tells a call that answers with document 01's number alone, which is 0.
+/// Tells a call that answers with its number alone.
+fn tell_alone(call: &str, number: u64, expected: u64, said: &str) {
+    tell(call, Answer { number, beside: [0; 3] }, [expected, 0], said);
+}
+
+/// Tells a call that answers with its number alone, which is 0.
 fn tell_done(call: &str, number: u64, said: &str) {
-    tell(call, Answer { number, beside: [0; 3] }, [0, 0], said);
+    tell_alone(call, number, 0, said);
+}
+
+/// The first bytes of a digest.
+fn begin(digest: &Digest) -> String {
+    let begin: String = digest[..8].iter().map(|byte| format!("{:02x}", byte)).collect();
+    format!(", {}..", begin)
 }
 
 /// The house starts its log.
@@ -99,8 +115,7 @@ fn publish(files: &Files, lot: Lot, i: u64, n: u64, lengths: [u64; 2]) {
     let store = files.read("store.lot");
     let mut digest = [0; 32];
     let number = lotlog::digest_at(&store, n, &mut digest);
-    let begin: String = digest[..8].iter().map(|byte| format!("{:02x}", byte)).collect();
-    tell_done(&format!("digest at {}", n), number, &format!(", {}..", begin));
+    tell_done(&format!("digest at {}", n), number, &begin(&digest));
     files.write("digest", &digest);
 
     let mut out = [0; 1024];
@@ -187,6 +202,47 @@ fn dispute(files: &Files, notice: Lot, n: u64) {
     tell("dispute", answer, [0, 1], said);
 }
 
+/// The house makes a rising list of the withdrawn lots' handles, and publishes its root.
+fn list_withdrawn(files: &Files) {
+    let mut handles = [[0; 32]; WITHDRAWN.len()];
+    for (lot, handle) in WITHDRAWN.iter().zip(&mut handles) {
+        tell_done(&format!("handle of {}", lot), lotlog::handle(lot.as_bytes(), handle), "");
+    }
+    handles.sort_unstable();
+    files.write("withdrawn", &handles.concat());
+    let mut root = [0; 32];
+    let number = lotlog::trie_root(&handles.concat(), &mut root);
+    tell_done("root of the list", number, &begin(&root));
+    files.write("root", &root);
+}
+
+/// The house proves what its list says of two lots.
+fn prove_both(files: &Files) {
+    let list = files.read("withdrawn");
+    let mut out = [0; TRIE_PROOF_MOST];
+    let answer = lotlog::prove_presence(&list, WITHDRAWN[0].as_bytes(), &mut out);
+    let call = format!("proof that {} is withdrawn", WITHDRAWN[0]);
+    let length = tell_named(&call, answer, [0, TRIE_PROOF_MOST as u64], "length");
+    files.write("proof.presence", &out[..length as usize]);
+    let answer = lotlog::prove_absence(&list, SOUND.as_bytes(), &mut out);
+    let length =
+        tell_named(&format!("proof that {} is not", SOUND), answer, [0, SOUND_PROOF], "length");
+    files.write("proof.absence", &out[..length as usize]);
+    let answer = lotlog::prove_absence(&list, WITHDRAWN[0].as_bytes(), &mut out);
+    tell(&format!("proof that {} is not", WITHDRAWN[0]), answer, [15, 0], "");
+}
+
+/// The practice checks both by the root alone.
+fn check_both(files: &Files) {
+    let root: Digest = files.array("root");
+    let (presence, absence) = (files.read("proof.presence"), files.read("proof.absence"));
+    let check = |lot: &str| lotlog::check_presence(lot.as_bytes(), &root, &presence);
+    tell_done(&format!("check that {} is withdrawn", WITHDRAWN[0]), check(WITHDRAWN[0]), "");
+    let check = |lot: &str| lotlog::check_absence(lot.as_bytes(), &root, &absence);
+    tell_done(&format!("check that {} is not", SOUND), check(SOUND), "");
+    tell_alone(&format!("check that {} is not", WITHDRAWN[0]), check(WITHDRAWN[0]), 17, "");
+}
+
 fn story(lots: &[&[u8]], files: &Files) {
     println!("The house starts log {} in a file with room for {} lots.", LOG, ROOM);
     start(files);
@@ -215,6 +271,11 @@ fn story(lots: &[&[u8]], files: &Files) {
 
     println!("Two practices were shown the same proof.");
     dispute(files, notice, late);
+
+    println!("The house lists the withdrawn lots; a practice holds the list's root.");
+    list_withdrawn(files);
+    prove_both(files);
+    check_both(files);
     println!("Every answer is the expected one.");
 }
 

@@ -33,4 +33,4 @@ pub clash-shown : (key root p q b1 b2 x y : Bytes) (r : Clashed) → 65 ≤ leng
 unfolding verdictNumber
 clash-shown key root p q b1 b2 x y r l1 l2 one other met =
     let room : roomy b1 b2 ≡ true = rw (le-leb 65 (length b1) l1, le-leb 65 (length b2) l2) in
-    rw met (clash-ends hashOf hash-length key root p q b1 b2 room (sym one) (sym other))
+    rw met (clash-ends hashOf hash-length key root p q (sym one) (sym other) b1 b2 room)

@@ -35,6 +35,7 @@ module _ (H : Bytes → Bytes) (key root p : Bytes) where
 
   -- an accepted absence
   pub record Empty : Type 0 where
+    pub short : length key ≤ entryLimit
     pub whole : length p % 32 ≡ 0
     pub most : length p ≤ 8192
     pub shown : shownEmpty H (handle H key) (rowsOf p) ≡ root
@@ -51,4 +52,4 @@ module _ (H : Bytes → Bytes) (key root p : Bytes) where
       go false false c d ea eb ec ed = absurd (false≢true (told ea eb ec ed))
       go false true false d ea eb ec ed = absurd (false≢true (told ea eb ec ed))
       go false true true false ea eb ec ed = absurd (false≢true (told ea eb ec ed))
-      go false true true true ea eb ec ed = record { whole = eqb-true (length p % 32) 0 eb; most = leb-true (length p) 8192 ec; shown = same-true _ root ed }
+      go false true true true ea eb ec ed = record { short = ltb-false entryLimit (length key) ea; whole = eqb-true (length p % 32) 0 eb; most = leb-true (length p) 8192 ec; shown = same-true _ root ed }

@@ -15,3 +15,4 @@ pub mod Shortest  -- A PROOF OF ABSENCE ENDS AT THE FIRST EMPTY NODE
 pub mod Clashing  -- THE CLASH THEOREM
 pub mod Built  -- EACH KIND IS BUILT EXACTLY WHEN TRUE, and accepted
 pub mod Shown  -- the clash theorem for the whole outcome of the call
+pub mod Binding  -- WHAT A LIST SAYS CAN'T BE DENIED without breaking the hash

@@ -63,15 +63,23 @@ module _ (H : Bytes → Bytes) (k : Bytes) where
     zero = h;
   })
 
--- THE CLASH THEOREM, FOR THE CALL: no third outcome.
-pub clash-ends : (H : Bytes → Bytes) → ((m : Bytes) → length (H m) ≡ 32) → (key root p q b1 b2 : Bytes) → roomy b1 b2 ≡ true
-    → checkPresence H key root p ≡ done → checkAbsence H key root q ≡ done → Ends H (handle H key) b1 b2 (clashCall H key root p q b1 b2)
-clash-ends H hash-length key root p q b1 b2 room one other =
-    let e1 : eqb (checkPresence H key root p) done ≡ true = ap (λ (n : ℕ). eqb n done) one in
-    let e2 : eqb (checkAbsence H key root q) done ≡ true = ap (λ (n : ℕ). eqb n done) other in
-    let f = full H key root p e1 in
-    let g = empty H key root q e2 in
-    let lp = f .sized in
-    rw (clash-is H key root p q b1 b2 room e1 e2)
-    (ends H (handle H key) (meeting H 256 (handle H key) (rowsOf p) (rowsOf q)) b1 b2
-    (met H hash-length 256 (handle H key) (rowsOf p) (rowsOf q) (rows-length _ p ∙ omega arith) (rows-whole _ p (omega arith)) (rows-whole _ q (omega arith)) (f .shown ∙ sym (g .shown))))
+module _ (H : Bytes → Bytes) (hash-length : (m : Bytes) → length (H m) ≡ 32) (key root p q : Bytes) (one : checkPresence H key root p ≡ done) (other : checkAbsence H key root q ≡ done) where
+  accepted : eqb (checkPresence H key root p) done ≡ true
+  accepted = ap (λ (n : ℕ). eqb n done) one
+
+  accepted' : eqb (checkAbsence H key root q) done ≡ true
+  accepted' = ap (λ (n : ℕ). eqb n done) other
+
+  -- THE CLASH THEOREM, FOR TWO ACCEPTED PROOFS
+  pub opposed-met : Met H (handle H key) (meeting H 256 (handle H key) (rowsOf p) (rowsOf q))
+  opposed-met =
+      let f = full H key root p accepted in
+      let g = empty H key root q accepted' in
+      let lp = f .sized in
+      met H hash-length 256 (handle H key) (rowsOf p) (rowsOf q) (rows-length _ p ∙ omega arith) (rows-whole _ p (omega arith)) (rows-whole _ q (omega arith)) (f .shown ∙ sym (g .shown))
+
+  -- AND FOR THE CALL: no third outcome
+  pub clash-ends : (b1 b2 : Bytes) → roomy b1 b2 ≡ true → Ends H (handle H key) b1 b2 (clashCall H key root p q b1 b2)
+  clash-ends b1 b2 room =
+      rw (clash-is H key root p q b1 b2 room accepted accepted')
+      (ends H (handle H key) (meeting H 256 (handle H key) (rowsOf p) (rowsOf q)) b1 b2 opposed-met)
