@@ -3,7 +3,7 @@
 use mathlib.Core.Path.{_≡_, refl}
 use mathlib.Core.Bool.{true}
 use mathlib.Core.List.{List, [], _∷_, _++_}
-use Prim.Native.Nat.{ℕ, _-_, _%_, _^_}
+use Prim.Native.Nat.{_-_, _%_, _^_}
 use lib.ListN.{length, replicate}
 use Rattle.lists.specs.Bytes.{Bytes, be, number, numberFrom}
 use Rattle.standin.specs.Hash.{hashOf, xored, xorRow}

@@ -1,19 +1,16 @@
 -- The two sides of a lent list of handles, and the search for the first handle with bit 1.
 use mathlib.Core.Path.{_≡_, refl, sym, ap, _∙_}
-use mathlib.Core.Bool.{Bool, true, false, cond, _&&_, and-eq-true-iff}
+use mathlib.Core.Bool.{Bool, true, false, cond}
 use mathlib.Core.List.{List, [], _∷_}
 use Prim.Native.Nat.{ℕ, suc, _+_, _*_, _/_, _%_, _≤_, _<_}
 use native.Mathlib.Omega.{arith}
 use native.Mathlib.Numerals.{add-one}
-use lib.Dec.{leb, eqb}
 use lib.ListN.{length, take, drop, length-drop, drop-of-length-le}
-use lib.Seq.{drop-drop, length-take-le}
-use borrow.Author.Tests.{eqb-true}
-use Rattle.lists.specs.Bytes.{Bytes, AreBytes}
-use Rattle.dictionary.specs.Handles.{turn, side, rowsOf, risingFrom, listed}
-use Rattle.dictionary.specs.Rows.{all-map, rows-bytes, rows-none, rows-next, rows-take, rows-drop, rows-length}
-use Rattle.dictionary.specs.Sides.{leading, digit, side-near, side-rises, rises, split}
-use Rattle.dictionary.specs.Bits.{row-below}
+use lib.Seq.{length-take-le}
+use Rattle.lists.specs.Bytes.{Bytes}
+use Rattle.dictionary.specs.Handles.{turn, side, rowsOf}
+use Rattle.dictionary.specs.Rows.{rows-none, rows-next, rows-take, rows-drop, rows-length}
+use Rattle.dictionary.specs.Sides.{leading, digit, side-near, side-rises, split}
 use Rattle.trie.specs.Tidy.{Tidy, Sided}
 
 -- ---- the search: what lies before `at` has bit 0

@@ -1,6 +1,6 @@
 -- `lookup::check_absence` meets its contract: each return fixes the tests of the definition up to it.
 use mathlib.Core.Path.{_≡_, refl, sym, ap, _∙_}
-use mathlib.Core.Bool.{Bool, true, false}
+use mathlib.Core.Bool.{true, false}
 use Prim.Native.Nat.{_%_}
 use lib.Dec.{leb, eqb}
 use lib.ListN.{length}

@@ -1,6 +1,6 @@
 -- `lookup::check_presence` meets its contract: each return fixes the tests of the definition up to it.
-use mathlib.Core.Path.{_≡_, refl, sym, ap, ap₂, _∙_}
-use mathlib.Core.Bool.{Bool, false}
+use mathlib.Core.Path.{_≡_, refl, sym, ap, _∙_}
+use mathlib.Core.Bool.{false}
 use native.Mathlib.Omega.{arith}
 use borrow.Author.Needs.{needs}
 use borrow.Author.Tests.{lt-ltb, le-ltb, eq-eqb, ne-eqb, not-true, not-false}
@@ -9,7 +9,7 @@ use Rattle.lists.specs.Bytes.{Bytes, same}
 use Rattle.hash.specs.Hash.{hashOf}
 use Rattle.rules.specs.Numbers.{entryLimit}
 use Rattle.dictionary.specs.Handles.{handle, rowsOf}
-use Rattle.dictionary.specs.Trie.{leafMsg, climbed, shownFull}
+use Rattle.dictionary.specs.Trie.{climbed, shownFull}
 use Rattle.dictionary.specs.Calls.{keyLong}
 use Rattle.dictionary.specs.Answers.{presence-is}
 use Rattle.lookup.specs.Told.{verdictNumber}
