@@ -91,6 +91,20 @@ module _ (H : Bytes → Bytes) (hash-length : (m : Bytes) → length (H m) ≡ 3
             written-first = ap (λ (w : Written). take (w .answer .value) (w .bytes)) e ∙ take-append-seam (proofOf H s key) (drop (length (proofOf H s key)) out);
           }
 
+  -- "Each kind is built exactly when true": a presence if and only if the handle is in the list, an absence if and only if it is not. This is said of a key that is
+  -- not too long, a list that is not refused and an output with room.
+  module _ (short : keyLong key ≡ false) (may : listed s ≡ true) (out : Bytes) where
+    pub presence-exactly : 8192 ≤ length out
+        → (presenceCall H s key out .answer .number ≡ done → isPresent H s key ≡ true) × (isPresent H s key ≡ true → presenceCall H s key out .answer .number ≡ done)
+    presence-exactly room = (λ h. done-says (isPresent H s key) out h .kind-true, λ h. ap (λ (w : Written). w .answer .number) (presence-built short may out h room))
+
+    pub absence-exactly : length (proofOf H s key) ≤ length out
+        → (absenceCall H s key out .answer .number ≡ done → isPresent H s key ≡ false) × (isPresent H s key ≡ false → absenceCall H s key out .answer .number ≡ done)
+    absence-exactly room = (
+      λ h. not-true (isPresent H s key) (done-says (not (isPresent H s key)) out h .kind-true),
+      λ h. ap (λ (w : Written). w .answer .number) (absence-built short may out h room),
+    )
+
   -- ---- accepted
 
   module _ (hash-bytes : (m : Bytes) → AreBytes m → AreBytes (H m)) (bytes : AreBytes s) (key-bytes : AreBytes key) where

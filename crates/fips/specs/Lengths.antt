@@ -14,7 +14,7 @@ pub sha256-length : (m : Bytes) → length (sha256 m) ≡ 32
 unfolding sha256
 sha256-length m = refl
 
--- The numbers that it gives are bytes.
+-- The numbers that it gives are bytes: those of each word are, and so are those of two strings together.
 record Good (b : Bytes) : Type 0 where
   bytes : AreBytes b
 
