@@ -4,8 +4,8 @@ use hash::Digest;
 // The bytes of 256 siblings.
 const WHOLE: usize = 8192;
 
-// The digest at a depth on the key's way, by a proof of presence.
-fn full_at(key: Digest, presence: &[u8], depth: usize) -> Digest {
+// The digest at a depth on the key's way, by a proof of presence; at depth 0 it is the root that the proof shows.
+pub(crate) fn full_at(key: Digest, presence: &[u8], depth: usize) -> Digest {
     if presence.len() != WHOLE {
         return key;
     }
@@ -13,11 +13,6 @@ fn full_at(key: Digest, presence: &[u8], depth: usize) -> Digest {
         return key;
     }
     lookup::climb(key, presence, node::leaf_of(key), depth)
-}
-
-// The root that a proof of presence shows.
-pub(crate) fn root(key: Digest, presence: &[u8]) -> Digest {
-    full_at(key, presence, 0)
 }
 
 // Made-up siblings.

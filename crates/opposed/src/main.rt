@@ -30,7 +30,7 @@ fn parted(key: &[u8], depth: usize) {
     let mut presence = [0u8; 8192];
     let mut absence = [0u8; 8192];
     forge::scatter(&mut presence);
-    let root = forge::root(handle, &presence);
+    let root = forge::full_at(handle, &presence, 0);
     forge::part(handle, &presence, depth, &mut absence);
     let end = 32 * depth + 32;
     run(key, root, &presence, &absence[0..end]);
@@ -55,7 +55,7 @@ fn zero(key: &[u8], depth: usize) {
     let mut presence = [0u8; 8192];
     forge::scatter(&mut presence);
     forge::zero(handle, &mut presence, depth);
-    let root = forge::root(handle, &presence);
+    let root = forge::full_at(handle, &presence, 0);
     front(key, root, &presence, 32 * depth);
 }
 

