@@ -6,7 +6,8 @@
 //! subtree beside the key's way, which is nearly all of the trie.
 //!
 //! After that the three calls are made on a stack of 128 KiB, which holds the 257 nodes of a way
-//! whatever the list. (A second thread slows the emulator down, so it begins when all is timed.)
+//! whatever the list. (Under the emulator both sides were slower once a thread had been started, so
+//! it begins when all is timed.)
 
 mod timing;
 
