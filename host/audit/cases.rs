@@ -6,7 +6,7 @@ use std::{env, fs};
 
 use second::hash::Sha256;
 use second::program::{line, INPUT_MOST};
-use second::store::{place, start, store_of, STATE};
+use second::store::{place, start, store_of, CLOSED, OPEN, STATE};
 
 const LOG: u64 = 7;
 const ELEMENTS: u64 = 33;
@@ -23,10 +23,17 @@ fn sound(elements: u64, room: u64) -> Vec<u8> {
     store_of::<Sha256>(LOG, elements + room, (1..=elements).map(|j| vec![j as u8; j as usize]))
 }
 
-/// The sound store with one byte of a record changed.
-fn changed(j: u64, at: usize, value: u8) -> Vec<u8> {
+/// A store as document 01 had it: the state byte of each open record is 0.
+fn old(elements: u64, room: u64) -> Vec<u8> {
+    let mut store = sound(elements, room);
+    (elements + 1..=elements + room).for_each(|j| store[place(j) + STATE] = 0);
+    store
+}
+
+/// The sound store with bits of one byte of a record turned.
+fn changed(j: u64, at: usize, bits: u8) -> Vec<u8> {
     let mut store = sound(ELEMENTS, 2);
-    store[place(j) + at] ^= value;
+    store[place(j) + at] ^= bits;
     store
 }
 
@@ -38,12 +45,14 @@ fn cases() -> Vec<(String, Vec<u8>)> {
     }
     for elements in 0..=ELEMENTS {
         cases.push((format!("sound-{}", elements), sound(elements, elements % 3)));
+        cases.push((format!("old-{}", elements), old(elements, 1 + elements % 3)));
     }
     for j in 1..=ELEMENTS {
         cases.push((format!("wrong-digest-{}", j), changed(j, 32 + j as usize % 32, 1)));
         cases.push((format!("wrong-d-{}", j), changed(j, j as usize % 32, 0x80)));
         cases.push((format!("state-{}", j), changed(j, STATE, 2)));
-        cases.push((format!("open-{}", j), changed(j, STATE, 1)));
+        cases.push((format!("open-{}", j), changed(j, STATE, CLOSED ^ OPEN)));
+        cases.push((format!("zero-{}", j), changed(j, STATE, CLOSED)));
     }
     for at in 0..16 {
         let mut store = sound(ELEMENTS, 0);

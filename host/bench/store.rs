@@ -8,7 +8,7 @@
 mod timing;
 
 use second::hash::Sha256;
-use second::store::{store_of, HEADER, RECORD, STATE};
+use second::store::{store_of, CLOSED, HEADER, OPEN, RECORD, STATE};
 use second::LIMIT;
 
 const ROUNDS: usize = 21;
@@ -19,8 +19,8 @@ fn plain_count(store: &[u8]) -> Option<u64> {
     let mut count = 0;
     for state in &mut states {
         match state {
-            1 => count += 1,
-            0 => return states.all(|state| state == 0).then(|| count),
+            CLOSED => count += 1,
+            OPEN => return states.all(|state| state == OPEN).then(|| count),
             _ => return None,
         }
     }

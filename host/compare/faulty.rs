@@ -4,6 +4,7 @@
 
 use lotlog::{Answer, Digest, Held, Side};
 use second::hash::{Hash, Sha256};
+use second::store::{HEADER, OPEN, RECORD, STATE};
 use second::trie::climbed;
 use second::{message, ENTRY_MOST};
 
@@ -56,6 +57,9 @@ pub const ABSENCE_NEEDS_A_SIBLING: usize = 36;
 pub const NAMES_THE_ABSENCE: usize = 37;
 pub const PROOFS_BEFORE_THE_BUFFERS: usize = 38;
 pub const PART_OF_A_SIBLING_IGNORED: usize = 39;
+pub const OPEN_IS_ZERO: usize = 40;
+pub const ZERO_IS_OPEN_TOO: usize = 41;
+pub const STARTS_WITH_ZEROS: usize = 42;
 
 impl<const FAULT: usize> HashCalls for Faulty<FAULT> {
     fn hash(message: &[u8], digest: &mut Digest) -> u64 {
@@ -69,11 +73,22 @@ impl<const FAULT: usize> HashCalls for Faulty<FAULT> {
     }
 }
 
+/// A store with its state bytes read otherwise.
+fn read_as(store: &[u8], state: impl Fn(u8) -> u8) -> Vec<u8> {
+    let mut store = store.to_vec();
+    for at in (HEADER + STATE..store.len()).step_by(RECORD) {
+        store[at] = state(store[at]);
+    }
+    store
+}
+
 impl<const FAULT: usize> StoreCalls for Faulty<FAULT> {
     fn start(store: &mut [u8], log: u64) -> u64 {
         let number = Second::start(store, log);
-        if FAULT == STARTS_PAST_CAPACITY && number == 0 && store.len() > 16 {
-            store[store.len() - 1] = 0;
+        match FAULT {
+            STARTS_PAST_CAPACITY if number == 0 && store.len() > 16 => store[store.len() - 1] = 0,
+            STARTS_WITH_ZEROS if number == 0 => store.copy_from_slice(&read_as(store, |_| 0)),
+            _ => (),
         }
         number
     }
@@ -82,6 +97,14 @@ impl<const FAULT: usize> StoreCalls for Faulty<FAULT> {
         let answer = Second::count(store);
         match FAULT {
             TAKES_ANY_STATE_BYTE if store.starts_with(b"LOT") => Answer { number: 0, ..answer },
+            OPEN_IS_ZERO => Second::count(&read_as(store, |state| match state {
+                0 => OPEN,
+                OPEN => 0,
+                _ => state,
+            })),
+            ZERO_IS_OPEN_TOO => {
+                Second::count(&read_as(store, |state| if state == 0 { OPEN } else { state }))
+            }
             _ => answer,
         }
     }

@@ -81,12 +81,12 @@ fn damaged_header<C: StoreCalls>(both: &mut Both<C>, elements: u64) {
     }
 }
 
-/// Each state byte turned over and set to values that are damage, which makes every order of open
-/// and closed next to each other.
+/// Each state byte turned over and set to values that are damage, 0 among them, which makes every
+/// order of open and closed next to each other.
 fn damaged_states<C: StoreCalls>(both: &mut Both<C>, elements: u64) {
     let room = 3;
     for j in 1..=elements + room {
-        for state in [0, 1, 2, 255] {
+        for state in [0, 1, 2, 127, 128, 254, 255] {
             let mut store = with_leftovers(elements, room);
             store[place(j) + STATE] = state;
             look(both, &store);

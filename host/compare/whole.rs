@@ -4,7 +4,7 @@ use lotlog::Side;
 use second::dispute::BUFFER_LEAST;
 use second::hash::HASH_MOST;
 use second::path::{advancement, membership, proof_length};
-use second::store::{Log, HEADER, RECORD, STATE};
+use second::store::{place, Log, HEADER, RECORD, STATE};
 use second::ENTRY_MOST;
 
 use crate::advance::Step;
@@ -25,6 +25,7 @@ pub fn run<C>(both: &mut Both<C>, seed: u64, calls: u64)
 where
     C: HashCalls + StoreCalls + MemberCalls + AdvanceCalls + TrieCalls,
 {
+    LOGS.iter().for_each(|(elements, room)| old_store(both, *elements, *room));
     let stores = LOGS.map(|(elements, room)| sound(elements, room));
     let mut random = Random::new(seed);
     let claims = trie::claims(&mut random);
@@ -44,6 +45,27 @@ where
             _ => dispute(both, store, &mut random),
         }
     }
+}
+
+/// A store whose open records are marked 0, as document 01 had it: every call that reads it refuses
+/// it with 1, unless it is full.
+fn old_store<C>(both: &mut Both<C>, elements: u64, room: u64)
+where
+    C: StoreCalls + MemberCalls + AdvanceCalls,
+{
+    let mut store = sound(elements, room);
+    (elements + 1..=elements + room).for_each(|j| store[place(j) + STATE] = 0);
+    let numbers = [
+        both.count(&store).number,
+        both.audit(&store).number,
+        both.digest_at(&store, 0).0,
+        both.held_at(&store, 0).0,
+        both.build_advancement(&store, 0, 0, 0).number,
+        both.build_membership(&store, elements.min(1), elements, 20_000).number,
+        both.append(&mut store, b"x", RECORD as u64).number,
+    ];
+    let full = [0, 0, 0, 0, 0, if elements == 0 { 4 } else { 0 }, 5];
+    assert_eq!(numbers, if room == 0 { full } else { [1; 7] });
 }
 
 /// The bytes as they are, or spoiled once in so many times.
@@ -72,7 +94,7 @@ fn maybe_damaged(store: &[u8], random: &mut Random) -> Vec<u8> {
         0 => store[random.place(HEADER)] ^= 1 << random.below(8),
         1 if records > 0 => {
             let state = HEADER + RECORD * random.place(records) + STATE;
-            store[state] = [0, 1, 2, 255][random.place(4)];
+            store[state] = [0, 1, 2, 254, 255][random.place(5)];
         }
         2 | 3 if records > 0 => {
             let at = HEADER + random.place(RECORD * records);

@@ -2,8 +2,8 @@
 //!
 //! The log has number 7 and three entries: the empty one, "A", and the 33 bytes from 0x61 upward.
 //! Its figures stand in figures.txt, first under the stand-in hash and then under SHA-256, so that
-//! the definitions of the proofs can be held to values from outside. Rows of the held state that
-//! are not printed are zero. Beside it stand figures of a dictionary of three keys: the empty one,
+//! the definitions of the proofs can be held to values from outside. Its store has room for one
+//! entry more. Rows of the held state that are not printed are zero. Beside it stand figures of a dictionary of three keys: the empty one,
 //! "A" and "C". Siblings that are not printed are zero too.
 
 use second::hash::{Hash, Sha256, Xor};
@@ -28,7 +28,7 @@ fn print(name: &str, bytes: &[u8]) {
 }
 
 fn print_log<H: Hash>(hash: &str) {
-    let store = store_of::<H>(LOG, LAST, entries().into_iter());
+    let store = store_of::<H>(LOG, LAST + 1, entries().into_iter());
     let log = Log::read(&store).expect("a sound store");
     let print = |name: &str, bytes: &[u8]| print(&format!("{}.{}", hash, name), bytes);
     for (j, entry) in (1..).zip(entries()) {

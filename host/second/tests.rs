@@ -206,7 +206,7 @@ fn whole_example() {
     start(&mut store, 7).unwrap();
     assert_eq!(store[..16], *b"LOT\x00\x01\x00\x00\x00\x00\x00\x00\x00\x00\x00\x00\x07");
     assert_eq!(store[16..80], [0xEE; 64]);
-    assert_eq!(store[80], 0);
+    assert_eq!(store[80], 0xFF);
 }
 
 #[test]
@@ -241,7 +241,7 @@ fn an_append_can_be_cut_anywhere() {
     for stop in (0..=66).chain([u64::MAX]) {
         let mut store = whole.clone();
         store[place(4)..].fill(0xEE);
-        store[place(4) + STATE] = 0;
+        store[place(4) + STATE] = 0xFF;
         let before = store.clone();
         let new = stop.min(WHOLE) as usize;
         let answer = append::<Sha256>(&mut store, &entry(4), stop);
@@ -260,10 +260,22 @@ fn damaged_stores_are_refused() {
         store[byte] ^= 1;
         assert_eq!(count(&store), refused(1, 0));
     }
-    for (state, value) in [(1, 2), (2, 255), (1, 0)] {
+    for (state, value) in [(1, 2), (2, 255), (1, 0), (3, 0)] {
         let mut store = sound.clone();
         store[place(state) + STATE] = value;
         assert_eq!(audit::<Sha256>(&store), refused(1, 0));
+    }
+}
+
+#[test]
+fn a_store_started_before_a2_is_refused() {
+    let mut store = vec![0xEE; HEADER + 3 * RECORD];
+    start(&mut store, 7).unwrap();
+    assert_eq!(count(&store), Ok(0));
+    for state in 1..=3 {
+        store[place(state) + STATE] = 0;
+        assert_eq!(count(&store), refused(1, 0));
+        assert_eq!(line::<Sha256>(&store), "refused 1\n");
     }
 }
 

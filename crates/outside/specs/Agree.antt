@@ -4,7 +4,7 @@ use mathlib.Core.Bool.{Bool, true, _&&_}
 use mathlib.Core.List.{List, [], _∷_, _++_}
 use Prim.Native.Nat.{ℕ}
 use lib.Count.{trailingZeros}
-use lib.ListN.{replicate}
+use lib.ListN.{replicate, set}
 use Rattle.lists.specs.Bytes.{Bytes, same, numberFrom}
 use Rattle.standin.specs.Hash.{hashOf, xored, xorRow}
 use Rattle.rules.specs.Numbers.{v1}
@@ -33,13 +33,13 @@ bodies = hashOf (entryMsg third) ∷ hashOf (entryMsg second) ∷ hashOf (entryM
 abbrev T : ℕ → Bytes
 T = digestIn hashOf (hashOf (startMsg v1 7)) bodies
 
--- ---- the same log, kept in a store of 211 bytes that held 255s
+-- ---- the same log, kept in a store of 276 bytes that held 170s: three records are closed, the last one is open
 
 abbrev append : Bytes → Bytes → Bytes
 append s e = appendCall hashOf v1 [] s e 65 .bytes
 
 abbrev store : Bytes
-store = append (append (append (startCall v1 (replicate 211 255) 7 .bytes) []) second) third
+store = append (append (append (startCall v1 (replicate 276 170) 7 .bytes) []) second) third
 
 flat : List Bytes → Bytes
 flat [] = []
@@ -56,6 +56,8 @@ computed =
     ∷ (advancementProof (bodyIn bodies) T 0 3, made.advanced)
     ∷ (flat (heldOf v1 7 T 3 .rows), made.rows)
     ∷ (store, made.kept)
+    ∷ (appendCall hashOf v1 [] made.kept (66 ∷ []) 40 .bytes, made.torn)
+    ∷ (countCall v1 made.torn .number ∷ countCall v1 made.torn .value ∷ countCall v1 (set made.kept 275 0) .number ∷ [], 0 ∷ 3 ∷ 1 ∷ [])
     ∷ (buildMembershipCall hashOf v1 made.kept 1 3 (replicate 224 0) .bytes, made.member)
     ∷ (buildAdvancementCall hashOf v1 made.kept 0 3 (replicate 160 0) .bytes, made.advanced)
     ∷ (flat (heldCall hashOf v1 made.kept 3 .held .rows), made.rows)
@@ -71,7 +73,7 @@ agree (r ∷ rs) = same (r .0) (r .1) && agree rs
 
 -- THE RULES GIVE THE FIGURES THAT WERE MADE OUTSIDE
 pub rules-agree : agree computed ≡ true
-unfolding agree computed flat made.start made.first made.second made.third made.member made.advanced made.rows made.kept
+unfolding agree computed flat made.start made.first made.second made.third made.member made.advanced made.rows made.kept made.torn
     hashOf xored xorRow numberFrom trailingZeros level greatest hops hopsIn path startMsg elementMsg links bodyIn digestIn
     header logOf firstUnclosed allOpen damaged tOf opened newRecord lowestWrong basis freeZero inOrder member walk advance advanceWalk
     agrees carried startCall countCall appendCall auditCall heldCall buildCall

@@ -33,6 +33,7 @@ pub mod States  -- what the count and the order test say of each state byte
 pub mod Stored  -- the stored digests and the links that they make
 pub mod Damage  -- refusal 1, test by test
 pub mod Answers  -- the outcome of each call on a store, test by test
+pub mod Stray  -- A STATE BYTE THAT IS NEITHER OPEN NOR CLOSED, on every call that reads
 pub mod Fresh  -- a store that was just started, byte for byte and call by call
 pub mod Started  -- STARTING A STORE, on the call
 pub mod Example  -- 01's whole example
