@@ -1,6 +1,6 @@
 //! A store in a file, call by call: files FOLDER. Every answer, every error and every byte of the file
-//! after it; what is flushed when; a flush or a reservation that fails; two writers; and readers
-//! beside a writer that goes on appending.
+//! after it; what is flushed when; a flush or a reservation that fails; two writers; readers beside a
+//! writer that goes on appending and growing; and ends in the middle of growing.
 
 mod expected;
 #[allow(dead_code)] // the program that ends processes uses the rest
@@ -8,14 +8,17 @@ mod process;
 mod system;
 
 use std::io::ErrorKind;
-use std::os::unix::fs::MetadataExt;
+use std::os::unix::fs::{symlink, MetadataExt, PermissionsExt};
 use std::path::{Path, PathBuf};
 use std::time::{Duration, Instant};
 use std::{env, fs, thread};
 
 use compare::logs::{entry, LOG};
+use compare::random::{fresh_seed, Random};
 use lotlog::file::{Error, Reader, Refusal, Writer};
-use lotlog::{store_bytes, ELEMENTS_MOST};
+use lotlog::{store_bytes, ELEMENTS_MOST, HEADER_BYTES, RECORD_BYTES};
+
+use second::store::OPEN;
 
 use expected::Expected;
 use process::Process;
@@ -145,7 +148,7 @@ fn appending(tests: &mut Tests) {
         // the flushed bytes begin with a page and end with the record
         tests.look("two flushes", flushed.len() == 2);
         let [first, second] = [&flushed[0], &flushed[1]].map(|part| part.split_at(part.len() - 1));
-        tests.look("first d and T", first.0.ends_with(body) && first.1 == [0]);
+        tests.look("first d and T", first.0.ends_with(body) && first.1 == [OPEN]);
         tests.look("then the state byte", second.0.ends_with(body) && second.1 == closed);
     }
     tests.refused("no room", writer.append(b"x"), 5);
@@ -197,14 +200,146 @@ fn growing(tests: &mut Tests) {
     tests.fails("too much", writer.grow(most + 1), ErrorKind::InvalidInput);
     tests.fails("far too much", writer.grow(usize::MAX), ErrorKind::InvalidInput);
     tests.refused("still no room", writer.append(b"x"), 5);
-    system::fail_reservation(1);
-    tests.look("a full disk", matches!(writer.grow(5), Err(Error::System(_))));
-    tests.fails("it appends no more", writer.append(b"x"), ErrorKind::Other);
+    tests.holds("the store is as it was", &path, &expected.store);
+}
+
+/// The store with so much room, at a count.
+fn with_room(room: usize, count: u64) -> Vec<u8> {
+    let mut expected = Expected::fresh(room);
+    expected.grow(count);
+    expected.store
+}
+
+/// Growing that fails: a full disk, and each flush, of the new file's bytes, of the file and of its
+/// name. Only when that one fails the new file has the name already.
+fn failing_growth(tests: &mut Tests) {
+    let ways: [(fn(), usize); 4] = [
+        (|| system::fail_reservation(1), 3),
+        (|| system::fail_flush(1), 3),
+        (|| system::fail_file_flush(1), 3),
+        (|| system::fail_file_flush(2), 8),
+    ];
+    for (number, (fail, room)) in ways.into_iter().enumerate() {
+        let (path, mut writer, _) = tests.store(&format!("grow-fail-{}", number), 3, 2);
+        fail();
+        tests.look("it is told", matches!(writer.grow(5), Err(Error::System(_))));
+        tests.fails("it appends no more", writer.append(b"x"), ErrorKind::Other);
+        tests.fails("it grows no more", writer.grow(1), ErrorKind::Other);
+        tests.holds("the log is as it was", &path, &with_room(room, 2));
+        tests.look("nothing is left beside it", !beside(&path).exists());
+        drop(writer);
+        let mut writer = Writer::open(&path).expect("the store");
+        tests.look("then it grows", writer.grow(1).is_ok());
+        tests.look("the next append", writer.append(&entry(3)).ok() == Some(3));
+        tests.holds("the grown store", &path, &with_room(room + 1, 3));
+    }
+}
+
+/// Where a store is grown.
+fn beside(path: &Path) -> PathBuf {
+    let mut name = path.to_path_buf().into_os_string();
+    name.push(".growing");
+    name.into()
+}
+
+/// The grown store is where the store was, also behind a link, and with its rights; a writer that
+/// has it keeps it; what another left beside it is no hindrance.
+fn growing_in_place(tests: &mut Tests) {
+    let (path, mut writer, _) = tests.store("rights", 1, 1);
+    let rights = fs::Permissions::from_mode(0o640);
+    fs::set_permissions(&path, rights.clone()).expect("its rights");
+    fs::write(beside(&path), [0xEE; 5_000]).expect("a file");
+    tests.look("room is added", writer.grow(2).is_ok());
+    tests.look("its rights", fs::metadata(&path).expect("the file").mode() & 0o777 == 0o640);
+    tests.look("nothing is left beside it", !beside(&path).exists());
+    tests.fails("a second writer", Writer::open(&path), ErrorKind::WouldBlock);
+    tests.look("the next append", writer.append(&entry(2)).ok() == Some(2));
     drop(writer);
-    let writer = Writer::open(&path).expect("the store");
-    let log = &expected.store[..];
-    tests.look("the log is as it was", writer.store().starts_with(log));
-    tests.look("and sound", lotlog::audit(writer.store()).beside[0] == room as u64);
+
+    let link = tests.path("link");
+    symlink("rights", &link).expect("a link");
+    let mut writer = Writer::open(&link).expect("the store");
+    tests.look("room is added", writer.grow(1).is_ok());
+    drop(writer);
+    tests.look("it is a link still", fs::symlink_metadata(&link).expect("the link").is_symlink());
+    tests.holds("the grown store", &path, &with_room(4, 2));
+}
+
+/// A writer that opens a store while another grows it, appends to it and ends: it has the new file
+/// and not the one that lost its name.
+fn opening_while_growing(tests: &mut Tests) {
+    let (path, writer, _) = tests.store("moved", 2, 2);
+    drop(writer);
+    let same = path.clone();
+    system::before_lock(move || {
+        let mut other = Writer::open(&same).expect("the store");
+        assert!(other.grow(3).is_ok());
+        assert_eq!(other.append(&entry(3)).ok(), Some(3));
+    });
+    let mut writer = Writer::open(&path).expect("the store");
+    tests.look("the grown store", writer.store() == with_room(5, 3));
+    tests.look("the next append", writer.append(&entry(4)).ok() == Some(4));
+    tests.holds("it is in the file", &path, &with_room(5, 4));
+}
+
+/// Readers beside a writer that grows: each copy is a store of its length, and no later one is older.
+fn reading_beside_growth(tests: &mut Tests) {
+    const LAST: u64 = 60;
+    let (path, writer, _) = tests.store("beside-growth", 1, 1);
+    drop(writer);
+    let reader = Reader::open(&path).expect("the store");
+    let process = Process::begin(|| {
+        let mut writer = Writer::open(&path).expect("the store");
+        for j in 2..=LAST {
+            assert!(writer.grow(1).is_ok());
+            assert!(writer.append(&entry(j)).is_ok());
+            thread::sleep(Duration::from_millis(2));
+        }
+    });
+    let (mut last, mut different) = (1, 0);
+    let began = Instant::now();
+    while last < LAST {
+        let store = reader.store().expect("a copy");
+        let room = (store.len() - HEADER_BYTES) / RECORD_BYTES;
+        let count = lotlog::count(&store).beside[0];
+        tests.look("a copy of a whole store", store == with_room(room, count));
+        tests
+            .look("no older one", last <= count && count as usize <= room && room <= LAST as usize);
+        different += u64::from(count > last);
+        last = count;
+        assert!(began.elapsed() < Duration::from_secs(120), "the writer does not go on");
+    }
+    tests.look("the log grew meanwhile", different > 5);
+    tests.look("the writer was not held up", process.ends_well());
+}
+
+/// Processes that grow a store again and again, ended at any moment: the store has the old room or
+/// the new, and all of its bytes. Gives how many left an unfinished file beside it.
+fn ended_in_growth(tests: &mut Tests) -> u64 {
+    const ENDS: u64 = 100;
+    const LONGEST: u64 = 30_000;
+    let (path, writer, _) = tests.store("ended", 3, 2);
+    drop(writer);
+    let mut random = Random::new(fresh_seed());
+    let mut unfinished = 0;
+    for _ in 0..ENDS {
+        let process = Process::begin(|| {
+            let mut writer = Writer::open(&path).expect("the store");
+            while writer.grow(1).is_ok() {}
+        });
+        thread::sleep(Duration::from_micros(random.below(LONGEST)));
+        process.end();
+        unfinished += u64::from(beside(&path).exists());
+        let store = fs::read(&path).expect("the file");
+        let room = (store.len() - HEADER_BYTES) / RECORD_BYTES;
+        tests.look("a whole store", store == with_room(room, 2));
+        let mut writer = Writer::open(&path).expect("the store");
+        tests.look("it can be grown", writer.grow(1).is_ok());
+        tests.look("nothing is left beside it", !beside(&path).exists());
+        tests.holds("the grown store", &path, &with_room(room + 1, 2));
+    }
+    tests.look("some ended in the middle", unfinished > 0);
+    unfinished
 }
 
 /// Bytes behind the last whole record are not read by the library; growing takes their place.
@@ -255,7 +390,16 @@ fn main() {
     appending(&mut tests);
     failing_flushes(&mut tests);
     growing(&mut tests);
+    failing_growth(&mut tests);
+    growing_in_place(&mut tests);
     growing_over_a_rest(&mut tests);
+    opening_while_growing(&mut tests);
     reading_beside(&mut tests);
-    println!("{} things of a store in a file are as they should be", tests.looked_at);
+    reading_beside_growth(&mut tests);
+    let unfinished = ended_in_growth(&mut tests);
+    println!(
+        "{} things of a store in a file are as they should be; of 100 ends in growth {} left an \
+         unfinished file",
+        tests.looked_at, unfinished
+    );
 }

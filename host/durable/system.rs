@@ -1,5 +1,5 @@
-//! The calls of the system by which a store reaches the disk, watched: they take the place of the C
-//! library's, note what they are asked for, and fail when told to.
+//! The calls of the system by which a store reaches the disk and is locked, watched: they take the
+//! place of the C library's, note what they are asked for, and fail or wait when told to.
 
 use std::os::raw::{c_int, c_long, c_void};
 use std::slice;
@@ -8,10 +8,14 @@ use std::sync::Mutex;
 
 /// The system's numbers on x86-64 Linux.
 const MSYNC: c_long = 26;
+const FCNTL: c_long = 72;
 const FSYNC: c_long = 74;
 const FALLOCATE: c_long = 285;
 const INPUT_OUTPUT_ERROR: c_int = 5;
 pub const NO_SPACE: c_int = 28;
+
+/// The command by which a lock is tried.
+const TRY_LOCK: c_int = 37;
 
 extern "C" {
     fn syscall(number: c_long, ...) -> c_long;
@@ -39,6 +43,13 @@ pub fn fail_file_flush(number: usize) {
 
 pub fn fail_reservation(number: usize) {
     BAD_RESERVATION.store(number, SeqCst);
+}
+
+/// What is done before the next lock is tried, once.
+static BEFORE_LOCK: Mutex<Option<Box<dyn FnOnce() + Send>>> = Mutex::new(None);
+
+pub fn before_lock(work: impl FnOnce() + Send + 'static) {
+    *BEFORE_LOCK.lock().expect("no other thread") = Some(Box::new(work));
 }
 
 /// What was flushed since this was asked last.
@@ -81,6 +92,19 @@ pub unsafe extern "C" fn fsync(file: c_int) -> c_int {
         return -1;
     }
     syscall(FSYNC, c_long::from(file)) as c_int
+}
+
+/// # Safety
+/// As of the C library's.
+#[no_mangle]
+pub unsafe extern "C" fn fcntl(file: c_int, command: c_int, with: *mut c_void) -> c_int {
+    if command == TRY_LOCK {
+        let work = BEFORE_LOCK.lock().expect("no other thread").take();
+        if let Some(work) = work {
+            work();
+        }
+    }
+    syscall(FCNTL, c_long::from(file), c_long::from(command), with) as c_int
 }
 
 /// # Safety

@@ -9,7 +9,9 @@
 //! work. The same is done to an append with one flush at its end, even if no sector
 //! is written in the middle of a copy: there a bad disk must be found, which is why there are two.
 //! And to an append that follows a process which was killed before its last flush: with all that it
-//! left made safe first, as `Writer::open` does, and without, where a bad disk must be found.
+//! left made safe first, as `Writer::open` does, and without, where a bad disk must be found. And to
+//! room that is added to a file in place, where bytes that are not written yet read as zeros: there
+//! too a bad disk must be found, which is why `Writer::grow` makes a new file.
 
 mod expected;
 
@@ -116,6 +118,14 @@ fn in_one(store: &[u8], entry: &[u8]) -> Pending {
     Pending { before: store.to_vec(), after }
 }
 
+/// Room for three more elements that is added in place: the file is that long already, the bytes are
+/// on their way.
+fn grown_in_place(store: &[u8]) -> Pending {
+    let mut before = store.to_vec();
+    before[store_bytes(ROOM - 3)..].fill(0);
+    Pending { before, after: store.to_vec() }
+}
+
 /// Whether a disk holds a log of one of the lengths, and can be appended to.
 fn holds(disk: &[u8], least: u64, most: u64) -> Result<(), String> {
     let mut expected = Expected::fresh(ROOM);
@@ -143,7 +153,7 @@ impl Tally {
 }
 
 fn main() {
-    let [mut right, mut once, mut unsafe_start] = [(); 3].map(|_| Tally::default());
+    let [mut right, mut once, mut unsafe_start, mut in_place] = [(); 4].map(|_| Tally::default());
     for (n, sector) in (0..=ELEMENTS).flat_map(|n| SECTORS.map(|sector| (n, sector))) {
         let mut expected = Expected::fresh(ROOM);
         expected.grow(n);
@@ -154,6 +164,7 @@ fn main() {
             right.look(pending.disks(sector, true), n, n + 1);
         }
         once.look(in_one(store, &next).disks(sector, false), n, n + 1);
+        in_place.look(grown_in_place(store).disks(sector, false), n, n);
 
         // the next writer appends to what a killed one left, and makes that safe first, or does not
         let killed = Kept::killed(store, &next);
@@ -171,9 +182,17 @@ fn main() {
     assert_eq!(right.bad, 0, "disks that hold neither log");
     assert!(once.bad > 0, "an append with one flush was not found out");
     assert!(unsafe_start.bad > 0, "an open without a flush was not found out");
+    assert!(in_place.bad > 0, "room added in place was not found out");
     println!(
         "{} disks hold the old log or the new one; {} of {} do not with one flush, {} of {} not \
-         where a killed writer's bytes are not made safe first",
-        right.disks, once.bad, once.disks, unsafe_start.bad, unsafe_start.disks
+         where a killed writer's bytes are not made safe first, {} of {} not where room is added in \
+         place",
+        right.disks,
+        once.bad,
+        once.disks,
+        unsafe_start.bad,
+        unsafe_start.disks,
+        in_place.bad,
+        in_place.disks
     );
 }

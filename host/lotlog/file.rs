@@ -13,12 +13,13 @@ use std::fmt;
 use std::fs::{self, File, OpenOptions};
 use std::io;
 use std::os::unix::fs::FileExt;
-use std::path::Path;
+use std::path::{Path, PathBuf};
 
 use super::{store_bytes, Answer, ELEMENTS_MOST, HEADER_BYTES, RECORD_BYTES, WHOLE};
 
 mod lock;
 mod map;
+mod place;
 
 use lock::{Lock, GATE, SEAT};
 use map::Map;
@@ -96,8 +97,25 @@ pub fn append_durably(
     Ok(count)
 }
 
+/// Reserves room in a file and starts a store there.
+#[inline]
+fn fresh(file: &File, log: u64, room: usize) -> Result<Map, Error> {
+    map::reserve(file, store_bytes(room))?;
+    let mut map = Map::of(file, store_bytes(room))?;
+    started(map.bytes_mut(), log)?;
+    Ok(map)
+}
+
+/// Waits until all of a file is on the disk.
+fn settle(file: &File, map: &Map) -> io::Result<()> {
+    map::flush(map.bytes())?;
+    file.sync_all()
+}
+
 /// A store that this process alone may change.
 pub struct Writer {
+    /// Where the store stands, from the root and with no links on the way.
+    path: PathBuf,
     file: File,
     map: Map,
     /// Whether a flush failed: then nobody can say what is on the disk.
@@ -112,10 +130,7 @@ impl Writer {
     pub fn create(path: &Path, log: u64, room: usize) -> Result<Writer, Error> {
         check_room(room)?;
         let file = OpenOptions::new().read(true).write(true).create_new(true).open(path)?;
-        let made = Writer::fill(file, log, room).and_then(|writer| {
-            sync_folder(path)?;
-            Ok(writer)
-        });
+        let made = Writer::fill(path, file, log, room);
         if made.is_err() {
             // the first error is the one to tell
             let _ = fs::remove_file(path);
@@ -124,16 +139,15 @@ impl Writer {
     }
 
     #[inline]
-    fn fill(file: File, log: u64, room: usize) -> Result<Writer, Error> {
+    fn fill(path: &Path, file: File, log: u64, room: usize) -> Result<Writer, Error> {
+        let path = fs::canonicalize(path)?;
         Lock::try_alone(&file, SEAT)?.keep();
         let gate = Lock::alone(&file, GATE)?;
-        map::reserve(&file, store_bytes(room))?;
-        let mut map = Map::of(&file, store_bytes(room))?;
-        started(map.bytes_mut(), log)?;
-        map::flush(map.bytes())?;
-        file.sync_all()?;
+        let map = fresh(&file, log, room)?;
+        settle(&file, &map)?;
         drop(gate);
-        Ok(Writer { file, map, unsure: false })
+        place::sync_folder(&path)?;
+        Ok(Writer { path, file, map, unsure: false })
     }
 
     /// Opens a store for writing. That another process has it is an error of the system, of the kind
@@ -141,15 +155,14 @@ impl Writer {
     /// judge.
     #[inline]
     pub fn open(path: &Path) -> Result<Writer, Error> {
-        let file = OpenOptions::new().read(true).write(true).open(path)?;
-        Lock::try_alone(&file, SEAT)?.keep();
+        let path = fs::canonicalize(path)?;
+        let file = seated(&path)?;
         // a writer that was killed may have closed a record that is not on the disk yet: no record
         // behind it may get there first
         file.sync_all()?;
-        // only now: the writer before may have grown it
         let map = Map::of(&file, length_of(&file)?)?;
         done(super::count(map.bytes()))?;
-        Ok(Writer { file, map, unsure: false })
+        Ok(Writer { path, file, map, unsure: false })
     }
 
     /// The store, for every call that reads one.
@@ -169,18 +182,52 @@ impl Writer {
         self.note(appended)
     }
 
-    /// Adds room for so many elements, reserved on the disk. After an error of the system this
-    /// writer appends no more; the log is as it was.
+    /// Adds room for so many elements, reserved on the disk. The store gets a new file, made beside
+    /// it under its name and `.growing`, which takes its place when all of it is safe: at every
+    /// moment the store's name stands for the log with the old room or with all of the new. After an
+    /// error of the system this writer appends no more; the log is as it was.
     #[inline]
     pub fn grow(&mut self, more: usize) -> Result<(), Error> {
         self.must_be_sure()?;
         let whole = (self.map.bytes().len() - HEADER_BYTES) / RECORD_BYTES;
         check_room(whole.saturating_add(more))?;
-        let gate = Lock::alone(&self.file, GATE)?;
-        let grown = longer(&self.file, store_bytes(whole), more);
-        drop(gate);
-        self.map = self.note(grown)?;
+        let grown = self.moved(whole, more);
+        let (file, map) = self.note(grown)?;
+        self.file = file;
+        self.map = map;
         Ok(())
+    }
+
+    /// Puts a longer file in the place of the store's.
+    #[inline]
+    fn moved(&self, whole: usize, more: usize) -> Result<(File, Map), Error> {
+        let next = place::next_to(&self.path);
+        let made = self.longer(&next, whole, more).and_then(|made| {
+            fs::rename(&next, &self.path)?;
+            Ok(made)
+        });
+        if made.is_err() {
+            // the first error is the one to tell
+            let _ = fs::remove_file(&next);
+        }
+        let made = made?;
+        place::sync_folder(&self.path)?;
+        Ok(made)
+    }
+
+    /// Makes a file with the whole records of the store and open ones behind them; what an open
+    /// record is, a fresh store says. One of that name which an earlier writer left is overwritten.
+    #[inline]
+    fn longer(&self, path: &Path, whole: usize, more: usize) -> Result<(File, Map), Error> {
+        let file = OpenOptions::new().read(true).write(true).create(true).open(path)?;
+        Lock::try_alone(&file, SEAT)?.keep();
+        file.set_len(0)?;
+        place::make_like(&file, &self.file)?;
+        let mut map = fresh(&file, 0, whole + more)?;
+        let kept = &self.map.bytes()[..store_bytes(whole)];
+        map.bytes_mut()[..kept.len()].copy_from_slice(kept);
+        settle(&file, &map)?;
+        Ok((file, map))
     }
 
     fn must_be_sure(&self) -> io::Result<()> {
@@ -197,37 +244,40 @@ impl Writer {
     }
 }
 
-/// Writes open records behind the whole ones, and maps all. What an open record is, a fresh store
-/// says.
-#[inline]
-fn longer(file: &File, end: usize, more: usize) -> Result<Map, Error> {
-    let mut fresh = vec![0; store_bytes(more)];
-    started(&mut fresh, 0)?;
-    let records = &fresh[HEADER_BYTES..];
-    file.write_all_at(records, end as u64)?;
-    map::reserve(file, end + records.len())?;
-    file.sync_all()?;
-    Ok(Map::of(file, end + records.len())?)
+/// Opens a store's file and takes the writer's lock on it. Where a writer before has grown the store
+/// in between, its name stands for another file by now: then for that one.
+fn seated(path: &Path) -> io::Result<File> {
+    loop {
+        let file = OpenOptions::new().read(true).write(true).open(path)?;
+        Lock::try_alone(&file, SEAT)?.keep();
+        if place::is_at(&file, path)? {
+            return Ok(file);
+        }
+    }
 }
 
 /// A store that others may write meanwhile.
 pub struct Reader {
-    file: File,
+    path: PathBuf,
 }
 
 impl Reader {
+    /// That there is no such file, or none that may be read, is told here.
     pub fn open(path: &Path) -> io::Result<Reader> {
-        Ok(Reader { file: File::open(path)? })
+        File::open(path)?;
+        Ok(Reader { path: fs::canonicalize(path)? })
     }
 
     /// A copy of the store as it stands between two appends, for every call that reads one; all of it
     /// is on the disk, also if the last writer was killed. It waits for an append that is under way,
     /// and an append waits for it.
     pub fn store(&self) -> io::Result<Vec<u8>> {
-        let _gate = Lock::shared(&self.file, GATE)?;
-        self.file.sync_all()?;
-        let mut store = vec![0; length_of(&self.file)?];
-        self.file.read_exact_at(&mut store, 0)?;
+        // anew for each copy: a store that was grown stands in another file
+        let file = File::open(&self.path)?;
+        let _gate = Lock::shared(&file, GATE)?;
+        file.sync_all()?;
+        let mut store = vec![0; length_of(&file)?];
+        file.read_exact_at(&mut store, 0)?;
         Ok(store)
     }
 }
@@ -243,13 +293,4 @@ fn check_room(room: usize) -> io::Result<()> {
         return Err(io::Error::new(io::ErrorKind::InvalidInput, message));
     }
     Ok(())
-}
-
-/// Makes the name of a new file safe: that stands in its folder.
-fn sync_folder(path: &Path) -> io::Result<()> {
-    let folder = match path.parent() {
-        Some(folder) if !folder.as_os_str().is_empty() => folder,
-        _ => Path::new("."),
-    };
-    File::open(folder)?.sync_all()
 }
