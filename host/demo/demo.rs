@@ -182,12 +182,16 @@ fn refusals(files: &Files, notice: Lot, other: &[u8], n: u64) {
     tell_named("an old digest", check(notice.entry, &old, &proof), [11, 3], "hops");
 }
 
-/// An audit of the store with one byte of a record changed.
+/// Audits of the store with one byte changed: of a lot's record, and the last one, which says that the
+/// record behind all lots is open.
 fn audit_changed(files: &Files, lot: Lot) {
     let mut store = files.read("store.lot");
     store[store_bytes(lot.position as usize - 1)] ^= 1;
     let call = format!("audit, a byte of lot {} changed", lot.position);
     tell_named(&call, lotlog::audit(&store), [12, lot.position], "element");
+    let mut store = files.read("store.lot");
+    *store.last_mut().expect("a byte") = 0;
+    tell("audit, an open record marked 0", lotlog::audit(&store), [1, 0], "");
 }
 
 /// Two practices compare what they were shown.

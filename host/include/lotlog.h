@@ -41,7 +41,8 @@
  *
  * Layouts, all numbers big-endian:
  *   store       16 bytes: "LOT", version 1 (2), three zero bytes, log number (8);
- *               then records of 65 bytes: d (32), T (32), state byte (0 open, 1 closed)
+ *               then records of 65 bytes: d (32), T (32), state byte (255 open, 1 closed;
+ *               any other, 0 too, is damage)
  *   held state  688 bytes: log number (8), count (8), digest (32), 20 rows of 32 bytes
  *   component   of element j with f trailing zero bits: d, T(j-1), T(j-2), T(j-4) .. T(j-2^f)
  *   proof       membership (i, n): the components of the path from i to n, both included;
@@ -87,7 +88,8 @@ extern "C" {
 /* SHA-256 of the message. Refusals: 3. */
 uint64_t lot_hash(const uint8_t *message, size_t message_length, uint8_t digest[32]);
 
-/* Starts a store for a log: writes the header and opens every record. What the store held is lost.
+/* Starts a store for a log: writes the header and opens every record, which sets its state byte to 255
+   and leaves its other 64 bytes. What the store held is lost.
    Refusals: 6 for a store under 16 bytes. */
 uint64_t lot_start(uint8_t *store, size_t store_length, uint64_t log);
 

@@ -223,7 +223,8 @@ pub fn hash(message: &[u8], digest: &mut Digest) -> u64 {
     unsafe { raw::lot_hash(message.as_ptr(), message.len(), digest.as_mut_ptr()) }
 }
 
-/// Starts a store for a log. Refusals: 6.
+/// Starts a store for a log: the header, and 255 as the state byte of every record, which is open then.
+/// Refusals: 6.
 #[inline]
 #[must_use]
 pub fn start(store: &mut [u8], log: u64) -> u64 {
