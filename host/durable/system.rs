@@ -1,5 +1,6 @@
 //! The calls of the system by which a store reaches the disk and is locked, watched: they take the
-//! place of the C library's, note what they are asked for, and fail or wait when told to.
+//! place of the C library's, note what they are asked for, and fail, or let something happen first, when
+//! told to.
 
 use std::os::raw::{c_int, c_long, c_void};
 use std::slice;

@@ -157,9 +157,10 @@ impl Writer {
     pub fn open(path: &Path) -> Result<Writer, Error> {
         let path = fs::canonicalize(path)?;
         let file = seated(&path)?;
-        // a writer that was killed may have closed a record that is not on the disk yet: no record
-        // behind it may get there first
+        // a writer that was killed may have closed a record that is not on the disk yet, or named the
+        // file: no record behind it may get there first, nor a record in a file without its name
         file.sync_all()?;
+        place::sync_folder(&path)?;
         let map = Map::of(&file, length_of(&file)?)?;
         done(super::count(map.bytes()))?;
         Ok(Writer { path, file, map, unsure: false })
