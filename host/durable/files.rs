@@ -1,6 +1,6 @@
 //! A store in a file, call by call: files FOLDER. Every answer, every error and every byte of the file
 //! after it; what is flushed when; a flush or a reservation that fails; two writers; readers beside a
-//! writer that goes on appending and growing; and ends in the middle of growing.
+//! writer that goes on appending and growing; and ends in the middle of making and growing a store.
 
 mod expected;
 #[allow(dead_code)] // the program that ends processes uses the rest
@@ -214,7 +214,7 @@ fn with_room(room: usize, count: u64) -> Vec<u8> {
 }
 
 /// Growing that fails: a full disk, and each flush, of the new file's bytes, of the file and of its
-/// name. Only when that one fails the new file has the name already.
+/// name. When the last one fails the new file has the name already.
 fn failing_growth(tests: &mut Tests) {
     let ways: [(fn(), usize); 4] = [
         (|| system::fail_reservation(1), 3),
@@ -249,8 +249,7 @@ fn beside(path: &Path) -> PathBuf {
 /// has it keeps it; what another left beside it is no hindrance.
 fn keeping_its_place(tests: &mut Tests) {
     let (path, mut writer, _) = tests.store("rights", 1, 1);
-    let rights = fs::Permissions::from_mode(0o640);
-    fs::set_permissions(&path, rights.clone()).expect("its rights");
+    fs::set_permissions(&path, fs::Permissions::from_mode(0o640)).expect("its rights");
     fs::write(beside(&path), [0xEE; 5_000]).expect("a file");
     tests.look("room is added", writer.grow(2).is_ok());
     tests.look("its rights", fs::metadata(&path).expect("the file").mode() & 0o777 == 0o640);
@@ -316,22 +315,58 @@ fn reading_beside_growth(tests: &mut Tests) {
     tests.look("the writer was not held up", process.ends_well());
 }
 
+/// So many processes are ended, each at some moment of its first milliseconds.
+const ENDS: u64 = 100;
+
+/// Lets a process do some work without end, and ends it at a random moment.
+fn end_in_the_middle(random: &mut Random, work: impl FnOnce()) {
+    const LONGEST: u64 = 30_000;
+    let process = Process::begin(work);
+    thread::sleep(Duration::from_micros(random.below(LONGEST)));
+    process.end();
+}
+
+/// Processes that make a store again and again, ended at any moment: there is no file, one that is
+/// refused with 1, or an empty log; and when that is removed a store can be made. Gives how many left
+/// a file.
+fn ended_in_creation(tests: &mut Tests) -> u64 {
+    const ROOM: usize = 1_000;
+    let path = tests.path("unborn");
+    let mut random = Random::new(fresh_seed());
+    let mut left = 0;
+    for _ in 0..ENDS {
+        end_in_the_middle(&mut random, || {
+            while Writer::create(&path, LOG, ROOM).is_ok() {
+                fs::remove_file(&path).expect("the file");
+            }
+        });
+        let file = path.exists();
+        left += u64::from(file);
+        match Writer::open(&path) {
+            Ok(writer) => tests.look("an empty log", writer.store() == with_room(ROOM, 0)),
+            Err(Error::Refused(Refusal(number))) => tests.look("an unfinished one", number == 1),
+            Err(Error::System(_)) => tests.look("no file", !file),
+        }
+        tests.look("it can be removed", !file || fs::remove_file(&path).is_ok());
+        tests.look("and made", Writer::create(&path, LOG, 1).is_ok());
+        fs::remove_file(&path).expect("the file");
+    }
+    tests.look("some left a file", left > 0);
+    left
+}
+
 /// Processes that grow a store again and again, ended at any moment: the store has the old room or
 /// the new, and all of its bytes. Gives how many left an unfinished file beside it.
 fn ended_in_growth(tests: &mut Tests) -> u64 {
-    const ENDS: u64 = 100;
-    const LONGEST: u64 = 30_000;
     let (path, writer, _) = tests.store("ended", 3, 2);
     drop(writer);
     let mut random = Random::new(fresh_seed());
     let mut unfinished = 0;
     for _ in 0..ENDS {
-        let process = Process::begin(|| {
+        end_in_the_middle(&mut random, || {
             let mut writer = Writer::open(&path).expect("the store");
             while writer.grow(1).is_ok() {}
         });
-        thread::sleep(Duration::from_micros(random.below(LONGEST)));
-        process.end();
         unfinished += u64::from(beside(&path).exists());
         let store = fs::read(&path).expect("the file");
         let room = (store.len() - HEADER_BYTES) / RECORD_BYTES;
@@ -399,10 +434,11 @@ fn main() {
     opening_while_growing(&mut tests);
     reading_beside(&mut tests);
     reading_beside_growth(&mut tests);
+    let made = ended_in_creation(&mut tests);
     let unfinished = ended_in_growth(&mut tests);
     println!(
-        "{} things of a store in a file are as they should be; of 100 ends in growth {} left an \
-         unfinished file",
-        tests.looked_at, unfinished
+        "{} things of a store in a file are as they should be; of {} ends while one is made {} left a \
+         file, of {} ends while one grows {} left an unfinished one",
+        tests.looked_at, ENDS, made, ENDS, unfinished
     );
 }
