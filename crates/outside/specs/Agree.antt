@@ -4,7 +4,7 @@ use mathlib.Core.Bool.{Bool, true, _&&_}
 use mathlib.Core.List.{List, [], _∷_, _++_}
 use Prim.Native.Nat.{ℕ}
 use lib.Count.{trailingZeros}
-use lib.ListN.{replicate, set}
+use lib.ListN.{take, replicate, set}
 use Rattle.lists.specs.Bytes.{Bytes, same, numberFrom}
 use Rattle.standin.specs.Hash.{hashOf, xored, xorRow}
 use Rattle.rules.specs.Numbers.{v1}
@@ -41,6 +41,10 @@ append s e = appendCall hashOf v1 [] s e 65 .bytes
 abbrev store : Bytes
 store = append (append (append (startCall v1 (replicate 276 170) 7 .bytes) []) second) third
 
+-- a fourth append, stopped after 40 stores
+abbrev cut : Bytes
+cut = appendCall hashOf v1 [] made.kept (66 ∷ []) 40 .bytes
+
 flat : List Bytes → Bytes
 flat [] = []
 flat (r ∷ rs) = r ++ flat rs
@@ -56,8 +60,8 @@ computed =
     ∷ (advancementProof (bodyIn bodies) T 0 3, made.advanced)
     ∷ (flat (heldOf v1 7 T 3 .rows), made.rows)
     ∷ (store, made.kept)
-    ∷ (appendCall hashOf v1 [] made.kept (66 ∷ []) 40 .bytes, made.torn)
-    ∷ (countCall v1 made.torn .number ∷ countCall v1 made.torn .value ∷ countCall v1 (set made.kept 275 0) .number ∷ [], 0 ∷ 3 ∷ 1 ∷ [])
+    ∷ (cut, take 211 made.kept ++ made.torn)
+    ∷ (countCall v1 cut .number ∷ countCall v1 cut .value ∷ countCall v1 (set made.kept 275 0) .number ∷ [], 0 ∷ 3 ∷ 1 ∷ [])
     ∷ (buildMembershipCall hashOf v1 made.kept 1 3 (replicate 224 0) .bytes, made.member)
     ∷ (buildAdvancementCall hashOf v1 made.kept 0 3 (replicate 160 0) .bytes, made.advanced)
     ∷ (flat (heldCall hashOf v1 made.kept 3 .held .rows), made.rows)
