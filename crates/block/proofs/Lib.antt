@@ -1,1 +1,1 @@
-pub mod Scheduling  -- one more word, one more round
+pub mod Scheduling  -- one more word in its place, sixteen more rounds

@@ -1,1 +1,1 @@
-pub mod Steps  -- the schedule and the rounds, some at a time
+pub mod Places  -- the schedule in sixteen places, and the rounds that use them

@@ -1,14 +1,15 @@
 // One block of a message: FIPS 180-4's functions, constants, schedule and rounds, up to the next hash value.
+// Of the schedule sixteen words are kept: sixteen rounds use them, and then each is replaced by the word sixteen later.
 ghost use mathlib.Core.Path.{_≡_};
-ghost use Prim.Native.Nat.{_+_, _-_, _<_, _≤_};
-ghost use lib.ListN.{length, getD};
+ghost use Prim.Native.Nat.{_+_, _*_, _%_, _<_, _≤_};
+ghost use lib.ListN.{length, getD, take, drop};
 ghost use Rattle.fips.specs.Sha256 as Fips;
-ghost use Rattle.block.specs.Steps.{Scheduled, Rounded};
+ghost use Rattle.block.specs.Places.{Ready, Replaced, turned};
 use fips::Words;
 use std::num::wrapping_add_u32;
 
-// FIPS 180-4, 4.2.2.
-const K: [u32; 64] = [
+// FIPS 180-4, 4.2.2: the constants of the sixty-four rounds, sixteen at a time.
+const K0: [u32; 16] = [
     0x428a2f98,
     0x71374491,
     0xb5c0fbcf,
@@ -25,6 +26,9 @@ const K: [u32; 64] = [
     0x80deb1fe,
     0x9bdc06a7,
     0xc19bf174,
+];
+
+const K1: [u32; 16] = [
     0xe49b69c1,
     0xefbe4786,
     0x0fc19dc6,
@@ -41,6 +45,9 @@ const K: [u32; 64] = [
     0xd5a79147,
     0x06ca6351,
     0x14292967,
+];
+
+const K2: [u32; 16] = [
     0x27b70a85,
     0x2e1b2138,
     0x4d2c6dfc,
@@ -57,6 +64,9 @@ const K: [u32; 64] = [
     0xd6990624,
     0xf40e3585,
     0x106aa070,
+];
+
+const K3: [u32; 16] = [
     0x19a4c116,
     0x1e376c08,
     0x2748774c,
@@ -132,64 +142,91 @@ fn load(s: &[u8], at: usize) -> u32
 fn mix(w2: u32, w7: u32, w15: u32, w16: u32) -> u32
     ensures { λ r. ⌜ r ≡ Fips.mix w2 w7 w15 w16 ⌝ }
 {
-    wrapping_add_u32(
-        wrapping_add_u32(wrapping_add_u32(small1(w2), w7), small0(w15)),
-        w16,
-    )
+    // first, so that less is held at a time
+    let s0 = small0(w15);
+    let s1 = small1(w2);
+    wrapping_add_u32(wrapping_add_u32(wrapping_add_u32(s1, w7), s0), w16)
 }
 
-// The schedule's word t, from those before it.
-fn later(w: &[u32; 64], t: usize) -> u32
-    requires { ⌜ (16 ≤ t) × (t < 64) ⌝ }
-    ensures { λ r. ⌜ r ≡ Fips.mix (getD (now (w .entry)) (t - 2) 0) (getD (now (w .entry)) (t - 7) 0) (getD (now (w .entry)) (t - 15) 0) (getD (now (w .entry)) (t - 16) 0) ⌝ }
-{
-    mix(w[t - 2], w[t - 7], w[t - 15], w[t - 16])
-}
-
-// Stores the schedule's word t.
-fn next_word(w: &mut [u32; 64], t: usize)
-    requires { ⌜ (16 ≤ t) × (t < 64) × (length (now w) ≡ 64) ⌝ }
-    ensures { λ r. ⌜ Scheduled t 1 (now (w .entry)) (now (w .exit)) ⌝ }
-{
-    w[t] = later(&*w, t);
-}
-
-// Eight words in a row: the compiler then keeps the latest in registers.
-fn eight_words(w: &mut [u32; 64], t: usize)
-    requires { ⌜ (16 ≤ t) × (t + 8 ≤ 64) × (length (now w) ≡ 64) ⌝ }
-    ensures { λ r. ⌜ Scheduled t 8 (now (w .entry)) (now (w .exit)) ⌝ }
-{
-    next_word(&mut *w, t);
-    next_word(&mut *w, t + 1);
-    next_word(&mut *w, t + 2);
-    next_word(&mut *w, t + 3);
-    next_word(&mut *w, t + 4);
-    next_word(&mut *w, t + 5);
-    next_word(&mut *w, t + 6);
-    next_word(&mut *w, t + 7);
-}
-
-// Stores the sixty-four words of a block's schedule.
-fn schedule(block: &[u8], w: &mut [u32; 64])
-    requires { ⌜ (length (now block) ≡ 64) × (length (now w) ≡ 64) ⌝ }
-    ensures { λ r. ⌜ now (w .exit) ≡ Fips.schedule 64 (now (block .entry)) ⌝ }
+// Stores the first sixteen words of a block's schedule.
+fn first_words(block: &[u8], w: &mut [u32; 16])
+    requires { ⌜ (length (now block) ≡ 64) × (length (now w) ≡ 16) ⌝ }
+    ensures { λ r. ⌜ Ready 0 (now (block .entry)) (now (w .exit)) ⌝ }
 {
     let mut t: usize = 0;
     while t < 16 {
         w[t] = load(block, 4 * t);
         t += 1;
     }
-    while t < 64 {
-        eight_words(&mut *w, t);
-        t += 8;
-    }
 }
 
-// The constants, as one value: a round that indexed `K` itself would copy all of it.
-fn keys() -> [u32; 64]
-    ensures { λ r. ⌜ r ≡ Fips.K ⌝ }
+// The word sixteen after the one at place i. Word t of the schedule stands at place t % 16, so that places 14, 9 and 1
+// further on hold those that FIPS calls t - 2, t - 7 and t - 15.
+fn later(w: &[u32; 16], i: usize) -> u32
+    requires { ⌜ i < 16 ⌝ }
+    ensures { λ r. ⌜ r ≡ Fips.mix (getD (now (w .entry)) ((i + 14) % 16) 0) (getD (now (w .entry)) ((i + 9) % 16) 0) (getD (now (w .entry)) ((i + 1) % 16) 0) (getD (now (w .entry)) i 0) ⌝ }
 {
-    K
+    mix(w[(i + 14) % 16], w[(i + 9) % 16], w[(i + 1) % 16], w[i])
+}
+
+// Replaces the word at place i. Those before it have been replaced, those after it have not.
+fn next_word(w: &mut [u32; 16], i: usize)
+    requires { ⌜ (i < 16) × (length (now w) ≡ 16) ⌝ }
+    ensures { λ r. ⌜ Replaced i 1 (now (w .entry)) (now (w .exit)) ⌝ }
+{
+    w[i] = later(&*w, i);
+}
+
+// In a row and at places that are known when this is compiled: no place is computed, and most words stay in registers.
+fn sixteen_words(w: &mut [u32; 16])
+    requires { ⌜ length (now w) ≡ 16 ⌝ }
+    ensures { λ r. ⌜ Replaced 0 16 (now (w .entry)) (now (w .exit)) ⌝ }
+{
+    next_word(&mut *w, 0);
+    next_word(&mut *w, 1);
+    next_word(&mut *w, 2);
+    next_word(&mut *w, 3);
+    next_word(&mut *w, 4);
+    next_word(&mut *w, 5);
+    next_word(&mut *w, 6);
+    next_word(&mut *w, 7);
+    next_word(&mut *w, 8);
+    next_word(&mut *w, 9);
+    next_word(&mut *w, 10);
+    next_word(&mut *w, 11);
+    next_word(&mut *w, 12);
+    next_word(&mut *w, 13);
+    next_word(&mut *w, 14);
+    next_word(&mut *w, 15);
+}
+
+// Replaces the words that the rounds from 16 * g on have used, unless those rounds were the last.
+fn words_after(w: &mut [u32; 16], g: usize)
+    requires { ⌜ length (now w) ≡ 16 ⌝ }
+    ensures { λ r. ⌜ (length (now (w .exit)) ≡ 16) × (g < 3 → Replaced 0 16 (now (w .entry)) (now (w .exit))) ⌝ }
+{
+    if g == 3 {
+        return;
+    }
+    sixteen_words(&mut *w);
+}
+
+// The constants of the rounds from 16 * g on. Each is read where it lies: of one table for all rounds every call of
+// `compress` would make a copy.
+fn keys(g: usize) -> [u32; 16]
+    requires { ⌜ g < 4 ⌝ }
+    ensures { λ r. ⌜ r ≡ take 16 (drop (16 * g) Fips.K) ⌝ }
+{
+    if g == 0 {
+        return K0;
+    }
+    if g == 1 {
+        return K1;
+    }
+    if g == 2 {
+        return K2;
+    }
+    K3
 }
 
 // One round, with its constant k and its word w.
@@ -211,27 +248,34 @@ fn round(v: Words, k: u32, w: u32) -> Words
     }
 }
 
-// Round t, with the constants k and the schedule w.
-fn next_round(v: Words, k: &[u32; 64], w: &[u32; 64], t: usize) -> Words
-    requires { ⌜ (t < 64) × (now k ≡ Fips.K) ⌝ }
-    ensures { λ r. ⌜ Rounded t 1 (now (w .entry)) v r ⌝ }
+// Round i of sixteen, with the constants k and the words w.
+fn next_round(v: Words, k: &[u32; 16], w: &[u32; 16], i: usize) -> Words
+    requires { ⌜ i < 16 ⌝ }
+    ensures { λ r. ⌜ r ≡ Fips.round (getD (now (k .entry)) i 0) (getD (now (w .entry)) i 0) v ⌝ }
 {
-    round(v, k[t], w[t])
+    round(v, k[i], w[i])
 }
 
-// Eight rounds in a row: no word is moved between them.
-fn eight_rounds(v: Words, k: &[u32; 64], w: &[u32; 64], t: usize) -> Words
-    requires { ⌜ (t + 8 ≤ 64) × (now k ≡ Fips.K) ⌝ }
-    ensures { λ r. ⌜ Rounded t 8 (now (w .entry)) v r ⌝ }
+// Sixteen rounds in a row: no word is moved between them.
+fn sixteen_rounds(v: Words, k: &[u32; 16], w: &[u32; 16]) -> Words
+    ensures { λ r. ⌜ r ≡ turned 16 (now (k .entry)) (now (w .entry)) v ⌝ }
 {
-    let v1 = next_round(v, k, w, t);
-    let v2 = next_round(v1, k, w, t + 1);
-    let v3 = next_round(v2, k, w, t + 2);
-    let v4 = next_round(v3, k, w, t + 3);
-    let v5 = next_round(v4, k, w, t + 4);
-    let v6 = next_round(v5, k, w, t + 5);
-    let v7 = next_round(v6, k, w, t + 6);
-    next_round(v7, k, w, t + 7)
+    let v1 = next_round(v, k, w, 0);
+    let v2 = next_round(v1, k, w, 1);
+    let v3 = next_round(v2, k, w, 2);
+    let v4 = next_round(v3, k, w, 3);
+    let v5 = next_round(v4, k, w, 4);
+    let v6 = next_round(v5, k, w, 5);
+    let v7 = next_round(v6, k, w, 6);
+    let v8 = next_round(v7, k, w, 7);
+    let v9 = next_round(v8, k, w, 8);
+    let v10 = next_round(v9, k, w, 9);
+    let v11 = next_round(v10, k, w, 10);
+    let v12 = next_round(v11, k, w, 11);
+    let v13 = next_round(v12, k, w, 12);
+    let v14 = next_round(v13, k, w, 13);
+    let v15 = next_round(v14, k, w, 14);
+    next_round(v15, k, w, 15)
 }
 
 fn plus(s: Words, v: Words) -> Words
@@ -254,14 +298,15 @@ pub fn compress(s: Words, block: &[u8]) -> Words
     requires { ⌜ length (now block) ≡ 64 ⌝ }
     ensures { λ r. ⌜ r ≡ Fips.compress s (now (block .entry)) ⌝ }
 {
-    let k = keys();
-    let mut w = [0u32; 64];
-    schedule(block, &mut w);
+    let mut w = [0u32; 16];
+    first_words(block, &mut w);
     let mut v = s;
-    let mut t: usize = 0;
-    while t < 64 {
-        v = eight_rounds(v, &k, &w, t);
-        t += 8;
+    let mut g: usize = 0;
+    while g < 4 {
+        let k = keys(g);
+        v = sixteen_rounds(v, &k, &w);
+        words_after(&mut w, g);
+        g += 1;
     }
     plus(s, v)
 }

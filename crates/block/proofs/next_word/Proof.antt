@@ -1,7 +1,5 @@
--- `block::next_word` meets its contract: one more word of the schedule is stored.
-use native.Mathlib.Omega.{arith}
-use lib.ListN.{length-set}
-use Rattle.block.proofs.Scheduling.{step-mix}
+-- `block::next_word` meets its contract: the word at one place is replaced.
+use Rattle.block.proofs.Scheduling.{replaced}
 use borrow.Author.Needs.{needs}
 use Rattle.block.proofs.next_word.Statement.{statement}
 use Rattle.block.proofs.next_word.Tie as tie
@@ -18,10 +16,7 @@ element-write-w c = search needs
 returns : tie.Need-returns
 returns c =
     let s = c .before .before in
-    record {
-      size = simp length-set (s .pre .2);
-      words = λ m e. step-mix m _ (s .args .t) _ (s .pre .0) (omega arith) e (c .later .ensures);
-    }
+    replaced (s .args .i) _ _ (s .pre .0) (s .pre .1) (c .later .ensures)
 
 pub next-word-spec : {M : Type 1} → statement M
 next-word-spec = tie.close (tie.spec later-requires mul-w element-write-w returns)
