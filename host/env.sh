@@ -15,6 +15,10 @@ programs=(lot_audit)
 # Flags of the Rust compiler, `cc` for C, and `tools` before the names of those that read and change archives.
 rust_flags=(--edition 2021 -C opt-level=3 -C target-cpu=x86-64 -L "$build")
 
+# Words for C and for Rust that put a program's libraries into it, where the emulator would have to find them.
+static=()
+rust_static=()
+
 if [ "$(uname -m)" = x86_64 ]; then
     rustc=${RUSTC:-rustc}
     cc=cc
@@ -26,8 +30,9 @@ else
     cc=x86_64-linux-gnu-gcc
     tools=x86_64-linux-gnu-
     emulator=(qemu-x86_64)
-    rust_flags+=(--target x86_64-unknown-linux-gnu -C linker="$cc"
-        -C target-feature=+crt-static -C relocation-model=static)
+    rust_flags+=(--target x86_64-unknown-linux-gnu -C linker="$cc" -C relocation-model=static)
+    static=(-static)
+    rust_static=(-C target-feature=+crt-static)
 fi
 
 # Runs a program for x86-64.
@@ -57,7 +62,7 @@ rust_library() { # NAME SOURCE [CRATE..]
 rust_program() { # NAME SOURCE [CRATE..]
     use_crates "${@:3}"
     mkdir -p "$build"
-    "$rustc" "${rust_flags[@]}" "${externs[@]}" -o "$build/$1" "$2"
+    "$rustc" "${rust_flags[@]}" "${rust_static[@]}" "${externs[@]}" -o "$build/$1" "$2"
 }
 
 # Builds the tests of a Rust library, build/NAME.
@@ -71,4 +76,17 @@ linked_program() { # NAME SOURCE [CRATE..]
     [ -e "$archive" ] || { echo "$archive is missing: host/run library makes it" >&2; return 1; }
     rust_flags+=(-C link-arg="$archive")
     rust_program "$@"
+}
+
+# The same for a program that loads a library as it runs, which none can that has its libraries in it.
+loading_program() { # NAME SOURCE [CRATE..]
+    rust_static=()
+    linked_program "$@"
+}
+
+# Writes where the library of OpenSSL is that bench-hash times, as the C compiler finds it; nothing if it is nowhere.
+libcrypto() {
+    local file
+    file=$("$cc" -print-file-name=libcrypto.so.3 2>/dev/null) || return 0
+    [ ! -e "$file" ] || echo "$file"
 }

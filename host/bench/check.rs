@@ -9,6 +9,7 @@ mod timing;
 use lotlog::Digest;
 use second::hash::Sha256;
 use second::store::store_of;
+use timing::way;
 
 const LOG: u64 = 1000;
 const ROUNDS: usize = 41;
@@ -80,11 +81,16 @@ fn plain_check(entry: &[u8], i: u64, n: u64, digest: &Digest, proof: &[u8]) -> (
         at += size(j);
         hops += 1;
     }
-    if known == *digest { (0, hops) } else { (11, hops) }
+    if known == *digest {
+        (0, hops)
+    } else {
+        (11, hops)
+    }
 }
 
 fn main() {
-    let entries: Vec<Vec<u8>> = (1..=LOG).map(|j| format!("lot {:06}, expiry 2028-05", j).into_bytes()).collect();
+    let entries: Vec<Vec<u8>> =
+        (1..=LOG).map(|j| format!("lot {:06}, expiry 2028-05", j).into_bytes()).collect();
     let store = store_of::<Sha256>(7, LOG, entries.iter().cloned());
     let mut digest = [0; 32];
     assert_eq!(lotlog::digest_at(&store, LOG, &mut digest), 0);
@@ -112,8 +118,8 @@ fn main() {
         let ours = lotlog::check_membership(entry, i, LOG, &digest, proof);
         assert_eq!((ours.number, ours.beside[0]), plain_check(entry, i, LOG, &digest, proof));
     }
-    let time = timing::side_by_side(ROUNDS, 1, proved_all, plain_all);
+    let [ours, plain] = timing::side_by_side(ROUNDS, 1, [way(proved_all), way(plain_all)]);
     println!("{} proofs of {} bytes in all, entries of {} bytes", LOG, bytes, entries[0].len());
     println!("{:>12} {:>12} {:>7}", "proved ms", "plain ms", "ratio");
-    println!("{:>12.2} {:>12.2} {:>7.2}", time.ours / 1e6, time.plain / 1e6, time.ratio);
+    println!("{:>12.2} {:>12.2} {:>7.2}", ours.time / 1e6, plain.time / 1e6, plain.ratio);
 }

@@ -1,18 +1,28 @@
-//! Times the proved SHA-256 beside the plain one of `host/plain`, on the same messages in one run.
+//! Times the proved SHA-256 beside the plain one of `host/plain`, on the same messages in one run;
+//! and beside OpenSSL's, with its processor extensions off and on, as the figure for how far the
+//! limit is: bench-hash OFF ON, which are two copies of its library.
 //!
-//! Both are compiled for release and for the same processor, the common x86-64 without extensions
-//! (`host/env.sh`). No buffer is cleared: a digest goes into the start of the next message, so that
-//! each call waits for the one before it and none can be left out.
+//! The first two are compiled for release and for the same processor, the common x86-64 without
+//! extensions (`host/env.sh`). No buffer is cleared: a digest goes into the start of the next
+//! message, so that each call waits for the one before it and none can be left out.
 
+mod openssl;
 mod timing;
 
+use std::env;
+
 use lotlog::Digest;
+use openssl::OpenSsl;
+use timing::way;
 
 /// An element with 0 and with 1 trailing zero bits, the longest element, and the longest entry.
 const SIZES: [usize; 4] = [73, 105, 681, 4097];
 
 const ROUNDS: usize = 201;
 const BYTES_IN_A_ROUND: usize = 1 << 17;
+
+/// The ways that are timed: proved, plain, and OpenSSL's two.
+const WAYS: usize = 4;
 
 /// A message of so many bytes that changes with each digest.
 struct Chain {
@@ -39,13 +49,55 @@ fn plain(message: &[u8], digest: &mut Digest) {
     *digest = plain::digest(message);
 }
 
-fn main() {
-    println!("{:>6} {:>12} {:>12} {:>7}", "bytes", "proved ns", "plain ns", "ratio");
-    for size in SIZES {
-        let (mut ours, mut theirs) = (Chain::of(size), Chain::of(size));
-        let calls = BYTES_IN_A_ROUND / size;
-        let time = timing::side_by_side(ROUNDS, calls, || ours.step(proved), || theirs.step(plain));
-        assert_eq!(ours.digest, theirs.digest, "the two chains of {} bytes differ", size);
-        println!("{:>6} {:>12.0} {:>12.0} {:>7.2}", size, time.ours, time.plain, time.ratio);
+/// Times all ways on messages of a size and prints the line of the table; the ratios.
+fn row(size: usize, off: &OpenSsl, on: &OpenSsl) -> [f64; WAYS] {
+    let mut chains = [(); WAYS].map(|_| Chain::of(size));
+    let [first, second, third, fourth] = &mut chains;
+    let ways = [
+        way(|| first.step(proved)),
+        way(|| second.step(plain)),
+        way(|| third.step(|message, digest| off.hash(message, digest))),
+        way(|| fourth.step(|message, digest| on.hash(message, digest))),
+    ];
+    let times = timing::side_by_side(ROUNDS, BYTES_IN_A_ROUND / size, ways);
+    for chain in &chains {
+        assert_eq!(chain.digest, chains[0].digest, "the chains of {} bytes differ", size);
     }
+    print!("{:>6} {:>12.0}", size, times[0].time);
+    for other in &times[1..] {
+        print!(" {:>12.0} {:>7.2}", other.time, other.ratio);
+    }
+    println!();
+    times.map(|way| way.ratio)
+}
+
+/// What there is to be on.
+fn offered(extensions: &[&str]) -> String {
+    let known = openssl::EXTENSIONS.map(|(name, _)| name).join(" ");
+    let offered = match extensions {
+        [] => "none, so that on is the same code as off".to_string(),
+        some => some.join(" "),
+    };
+    format!("of {} the processor offers {}", known, offered)
+}
+
+fn main() {
+    let files: Vec<String> = env::args().skip(1).collect();
+    let [off, on] = <[String; 2]>::try_from(files).expect("two copies of OpenSSL's library");
+    let off = OpenSsl::load(&off, Some(openssl::OFF));
+    let on = OpenSsl::load(&on, None);
+    assert!(off.extensions().is_empty(), "extensions that are off: {:?}", off.extensions());
+    println!("{}; {}", on.release(), offered(&on.extensions()));
+    println!(
+        "{:>6} {:>12} {:>12} {:>7} {:>12} {:>7} {:>12} {:>7}",
+        "bytes", "proved ns", "plain ns", "ratio", "off ns", "ratio", "on ns", "ratio"
+    );
+    let ratios = SIZES.map(|size| row(size, &off, &on));
+    let most = |way: usize| ratios.iter().map(|row| row[way]).fold(0.0, f64::max);
+    println!(
+        "at most {:.2} of plain Rust's time, {:.2} of OpenSSL's with its extensions off, {:.2} on",
+        most(1),
+        most(2),
+        most(3)
+    );
 }

@@ -10,6 +10,7 @@ mod timing;
 use second::hash::Sha256;
 use second::store::{store_of, CLOSED, HEADER, OPEN, RECORD, STATE};
 use second::LIMIT;
+use timing::{way, Timing};
 
 const ROUNDS: usize = 21;
 
@@ -27,9 +28,9 @@ fn plain_count(store: &[u8]) -> Option<u64> {
     Some(count)
 }
 
-fn print(call: &str, time: timing::Timing) {
-    let [ours, plain] = [time.ours, time.plain].map(|nanoseconds| nanoseconds / 1e6);
-    println!("{:>8} {:>12.2} {:>12.2} {:>7.2}", call, ours, plain, time.ratio);
+fn print(call: &str, [ours, plain]: [Timing; 2]) {
+    let (ratio, ours, plain) = (plain.ratio, ours.time / 1e6, plain.time / 1e6);
+    println!("{:>8} {:>12.2} {:>12.2} {:>7.2}", call, ours, plain, ratio);
 }
 
 fn main() {
@@ -39,7 +40,7 @@ fn main() {
     println!("{:>8} {:>12} {:>12} {:>7}", "call", "proved ms", "plain ms", "ratio");
     let plain = || assert_eq!(plain_count(&store), Some(before));
     let count = || assert_eq!(lotlog::count(&store).beside[0], before);
-    print("count", timing::side_by_side(ROUNDS, 1, count, plain));
+    print("count", timing::side_by_side(ROUNDS, 1, [way(count), way(plain)]));
     let append = || assert_eq!(lotlog::append(&mut written, b"", 64).beside[0], before);
-    print("append", timing::side_by_side(ROUNDS, 1, append, plain));
+    print("append", timing::side_by_side(ROUNDS, 1, [way(append), way(plain)]));
 }

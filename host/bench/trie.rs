@@ -14,6 +14,7 @@ mod timing;
 use std::thread;
 
 use lotlog::Digest;
+use timing::way;
 
 const HANDLES: u64 = 1000;
 const ROUNDS: usize = 3;
@@ -133,9 +134,9 @@ impl<'a> Plain<'a> {
 
 /// One line of the table: both ways timed, and the hashes that the plain one makes.
 fn row(name: &str, hashes: u64, ours: impl FnMut(), plain: impl FnMut()) {
-    let time = timing::side_by_side(ROUNDS, 1, ours, plain);
-    let (ours, plain) = (time.ours / 1e6, time.plain / 1e6);
-    println!("{:<10} {:>8} {:>12.2} {:>12.2} {:>7.2}", name, hashes, ours, plain, time.ratio);
+    let [ours, plain] = timing::side_by_side(ROUNDS, 1, [way(ours), way(plain)]);
+    let (ratio, ours, plain) = (plain.ratio, ours.time / 1e6, plain.time / 1e6);
+    println!("{:<10} {:>8} {:>12.2} {:>12.2} {:>7.2}", name, hashes, ours, plain, ratio);
 }
 
 fn root_row(list: &[u8]) {
