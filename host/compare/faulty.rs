@@ -60,6 +60,7 @@ pub const PART_OF_A_SIBLING_IGNORED: usize = 39;
 pub const OPEN_IS_ZERO: usize = 40;
 pub const ZERO_IS_OPEN_TOO: usize = 41;
 pub const STARTS_WITH_ZEROS: usize = 42;
+pub const MISSES_A_LAST_BIT: usize = 43;
 
 impl<const FAULT: usize> HashCalls for Faulty<FAULT> {
     fn hash(message: &[u8], digest: &mut Digest) -> u64 {
@@ -67,10 +68,16 @@ impl<const FAULT: usize> HashCalls for Faulty<FAULT> {
         match FAULT {
             PADDING_AT_55_BYTES if message.len() % 64 == 55 => digest[31] ^= 1,
             HASHES_TOO_MUCH if number == 3 => return Second::hash(&message[..65_536], digest),
+            MISSES_A_LAST_BIT if is_a_last_bit(message) => return Second::hash(&[0; 128], digest),
             _ => (),
         }
         number
     }
+}
+
+/// Whether a message is two blocks of zeros but for the last bit of the first.
+fn is_a_last_bit(message: &[u8]) -> bool {
+    message.len() == 128 && (0..128).all(|at| message[at] == u8::from(at == 63))
 }
 
 /// A store with its state bytes read otherwise.

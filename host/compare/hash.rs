@@ -11,9 +11,10 @@ const SEED: u64 = 1;
 
 pub fn run<C: HashCalls>(both: &mut Both<C>, scale: Scale) {
     every_short_length(both);
+    every_bit(both);
     around_whole_blocks(both);
     around_the_limit(both);
-    at_random(both, scale.pick(2_000, 100));
+    at_random(both, scale.pick(20_000, 100));
 }
 
 /// Every length up to five blocks, so that each place of the padding occurs.
@@ -23,6 +24,18 @@ fn every_short_length<C: HashCalls>(both: &mut Both<C>) {
             both.hash(&vec![byte; length]);
         }
         both.hash(&Random::new(SEED).bytes(length));
+    }
+}
+
+/// Two blocks, one of which has a single bit that is not like all others, so that each bit of a block is
+/// seen to count.
+fn every_bit<C: HashCalls>(both: &mut Both<C>) {
+    for byte in [0, 0xFF] {
+        for bit in 0..2 * 512 {
+            let mut message = [byte; 128];
+            message[bit / 8] ^= 0x80 >> (bit % 8);
+            both.hash(&message);
+        }
     }
 }
 

@@ -35,7 +35,7 @@ fn main() {
     whole::run(&mut both, SEED, CALLS);
     panic::set_hook(Box::new(|_| ()));
     let unnoticed = unnoticed! {
-        hash: PADDING_AT_55_BYTES HASHES_TOO_MUCH;
+        hash: PADDING_AT_55_BYTES HASHES_TOO_MUCH MISSES_A_LAST_BIT;
         store: STARTS_PAST_CAPACITY TAKES_ANY_STATE_BYTE CLOSES_TOO_EARLY STOP_WRAPS
             COUNT_BESIDE_A_REFUSAL SKIPS_EMPTY_ENTRIES NO_DIGEST_AT_0 AUDIT_NAMES_THE_LAST
             OPEN_IS_ZERO ZERO_IS_OPEN_TOO STARTS_WITH_ZEROS;
