@@ -177,7 +177,7 @@ fn next_word(w: &mut [u32; 16], i: usize)
     w[i] = later(&*w, i);
 }
 
-// In a row and at places that are known when this is compiled: no place is computed, and most words stay in registers.
+// Replaces all sixteen, one after the other, at places that are known when this is compiled, so that none is computed.
 fn sixteen_words(w: &mut [u32; 16])
     requires { ⌜ length (now w) ≡ 16 ⌝ }
     ensures { λ r. ⌜ Replaced 0 16 (now (w .entry)) (now (w .exit)) ⌝ }
