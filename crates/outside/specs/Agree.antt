@@ -45,7 +45,7 @@ store = append (append (append (startCall v1 (replicate 276 170) 7 .bytes) []) s
 abbrev cut : Bytes
 cut = appendCall hashOf v1 [] made.kept (66 ∷ []) 40 .bytes
 
-flat : List Bytes → Bytes
+unfoldable pub flat : List Bytes → Bytes
 flat [] = []
 flat (r ∷ rs) = r ++ flat rs
 

@@ -1,2 +1,3 @@
 pub mod Made  -- the figures, by the program `make`
 pub mod Agree  -- the rules give the same
+pub mod Saved  -- and so does the file form of a held state

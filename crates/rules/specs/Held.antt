@@ -1,9 +1,10 @@
 -- 01, "What a practice holds": the state, the state that digests give at n, and the states that are refused with 2.
+use mathlib.Core.Path.{_≡_}
 use mathlib.Core.Bool.{Bool, true, cond, _&&_, _||_}
 use mathlib.Core.List.{List, [], _∷_}
-use Prim.Native.Nat.{ℕ, zero, suc, _*_, _/_, _%_, _^_}
+use Prim.Native.Nat.{ℕ, zero, suc, _*_, _/_, _%_, _^_, _<_}
 use lib.Dec.{leb, eqb}
-use lib.ListN.{replicate}
+use lib.ListN.{length, getD, replicate}
 use Rattle.lists.specs.Bytes.{Bytes, same, zeros}
 use Rattle.rules.specs.Numbers.{Version, limit}
 use Rattle.rules.specs.Messages.{startMsg}
@@ -14,6 +15,14 @@ pub record Held : Type 0 where
   pub count : ℕ
   pub digest : Bytes
   pub rows : List Bytes
+
+-- what every state of the code is: its numbers fit into 8 bytes, there is a row for each level, and digest and rows have 32 bytes
+pub record Sized (v : Version) (h : Held) : Type 0 where
+  pub log-fits : h .log < 256 ^ 8
+  pub count-fits : h .count < 256 ^ 8
+  pub digest-whole : length (h .digest) ≡ 32
+  pub rows-all : length (h .rows) ≡ v .levels
+  pub rows-whole : (l : ℕ) → l < v .levels → length (getD (h .rows) l []) ≡ 32
 
 abbrev pub odd : ℕ → Bool
 odd n = eqb (n % 2) 1

@@ -1,7 +1,7 @@
 -- The bytes of a held state: log number and count (8 bytes each, big-endian), digest, rows. And that nothing is lost on the way there and back.
 use mathlib.Core.Path.{_≡_, refl, sym, ap, ap₂, _∙_}
 use mathlib.Core.List.{List, [], _∷_, _++_, append-assoc, append-nil}
-use Prim.Native.Nat.{ℕ, zero, suc, _+_, _*_, _^_, _<_}
+use Prim.Native.Nat.{ℕ, zero, suc, _+_, _*_, _<_}
 use native.Mathlib.Omega.{arith}
 use lib.ListN.{length, getD, take, drop, length-drop, take-append-drop}
 use lib.Seq.{take-at, drop-at, take-add, drop-drop}
@@ -9,7 +9,7 @@ use Rattle.lists.specs.Bytes.{Bytes, AreBytes, be, number}
 use Rattle.lists.specs.Laws.{length-part}
 use Rattle.lists.specs.Numbers.{number-be, be-number, part-bytes}
 use Rattle.rules.specs.Numbers.{v1}
-use Rattle.rules.specs.Held.{Held}
+use Rattle.rules.specs.Held.{Held, Sized}
 
 -- where the rows begin, their bytes, and all
 abbrev pub rowsPlace : ℕ
@@ -73,14 +73,6 @@ wire-in b n a =
 
 -- ---- from states to states
 
--- what every state of the code is: its numbers fit into 8 bytes, and digest and rows have 32
-pub record Sized (h : Held) : Type 0 where
-  pub log-fits : h .log < 256 ^ 8
-  pub count-fits : h .count < 256 ^ 8
-  pub digest-whole : length (h .digest) ≡ 32
-  pub rows-all : length (h .rows) ≡ v1 .levels
-  pub rows-whole : (l : ℕ) → l < v1 .levels → length (getD (h .rows) l []) ≡ 32
-
 rows-flat : (rs : List Bytes) → ((l : ℕ) → l < length rs → length (getD rs l []) ≡ 32) → rowsIn (length rs) (flat rs) ≡ rs
 unfolding flat rowsIn
 rows-flat [] w = refl
@@ -90,7 +82,7 @@ rows-flat (r ∷ rs) w =
     (ap (rowsIn (length rs)) (drop-at r (flat rs) 32 e) ∙ rows-flat rs (λ l h. w (suc l) (omega arith)))
 
 -- THE STATE THAT STANDS IN A STATE'S BYTES IS THAT STATE
-pub in-wire : (h : Held) → Sized h → heldIn (wireOf h) ≡ h
+pub in-wire : (h : Held) → Sized v1 h → heldIn (wireOf h) ≡ h
 unfolding wireOf heldIn
 in-wire h s =
     let rest = h .digest ++ flat (h .rows) in
