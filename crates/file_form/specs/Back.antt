@@ -30,23 +30,23 @@ module _ (H : Bytes → Bytes) (v : Version) (h : Held) (e : inOrder H v h ≡ t
   order-free = and-eq-true-iff (freeZero (h .count) (h .rows)) _ .0 (and-eq-true-iff (leb (h .count) (limit v)) _ .0 e .1) .0
 
 -- a count up to the limit has no more bits than there are levels
-few-bits : (v : Version) (n : ℕ) → n ≤ limit v → n < 2 ^ v .levels
+pub few-bits : (v : Version) (n : ℕ) → n ≤ limit v → n < 2 ^ v .levels
 few-bits v n h = let p = pow-pos (v .levels) in omega arith
 
 -- ---- the bytes of a file
 
-module _ (v : Version) (h : Held) (s : Sized v h) where
-  head-size : length (head v h) ≡ headSize
-  unfolding head
-  head-size = length-append (hld ++ be 2 (v .number) ++ be 8 (h .log) ++ be 8 (h .count)) (h .digest) ∙ omega (arith, s .digest-whole)
+pub head-size : (v : Version) (h : Held) → length (h .digest) ≡ 32 → length (head v h) ≡ headSize
+unfolding head
+head-size v h d = length-append (hld ++ be 2 (v .number) ++ be 8 (h .log) ++ be 8 (h .count)) (h .digest) ∙ omega arith
 
+module _ (v : Version) (h : Held) (s : Sized v h) where
   -- A FILE HAS 53 BYTES, AND 32 FOR EACH BIT OF THE COUNT.
   pub file-size : h .count ≤ limit v → length (fileOf v h) ≡ fileSize (h .count)
   unfolding fileOf
   file-size few =
       let k : h .count < 2 ^ length (h .rows) = rw (s .rows-all) (few-bits v (h .count) few) in
       length-append (head v h) (inUse (h .count) (h .rows))
-      ∙ omega (arith, head-size, use-size (h .rows) (h .count) k (λ l b. s .rows-whole l (omega (arith, s .rows-all))))
+      ∙ omega (arith, head-size v h (s .digest-whole), use-size (h .rows) (h .count) k (λ l b. s .rows-whole l (omega (arith, s .rows-all))))
 
   -- ---- state to file to state
 
@@ -72,7 +72,7 @@ module _ (v : Version) (h : Held) (s : Sized v h) where
 
   rows-part : drop headSize (fileOf v h) ≡ inUse (h .count) (h .rows)
   unfolding fileOf
-  rows-part = drop-at (head v h) (inUse (h .count) (h .rows)) headSize head-size
+  rows-part = drop-at (head v h) (inUse (h .count) (h .rows)) headSize (head-size v h (s .digest-whole))
 
   -- THE STATE THAT STANDS IN A STATE'S FILE IS THAT STATE.
   pub state-back : freeZero (h .count) (h .rows) ≡ true → stateIn v (fileOf v h) ≡ h

@@ -3,9 +3,9 @@
 use mathlib.Core.Path.{_≡_, refl, sym, ap, ap₂, _∙_}
 use mathlib.Core.Logic.{_⊎_, inl, inr}
 use mathlib.Core.Bool.{Bool, true, false, cond, _&&_, _||_, and-eq-true-iff}
-use mathlib.Core.List.{List, [], _∷_, _++_}
+use mathlib.Core.List.{List, [], _∷_, _++_, append-assoc, append-nil}
 use Prim.Native.Nat.{ℕ, zero, suc, _+_, _*_, _/_, _%_, _^_, _<_}
-use native.Mathlib.Nat.{pow-suc}
+use native.Mathlib.Nat.{pow-suc, div-one}
 use native.Mathlib.Omega.{arith}
 use lib.Count.{ones, onesIn, ones-step}
 use lib.ListN.{length, getD, take, drop, length-append, length-drop, take-append-drop}
@@ -14,7 +14,7 @@ use borrow.Author.Tests.{eqb-true}
 use Rattle.lists.specs.Bytes.{Bytes, same, zeros}
 use Rattle.lists.specs.Same.{same-true}
 use Rattle.rules.specs.Held.{odd, freeZero}
-use Rattle.rules.specs.Parity.{Odd, Even, parity}
+use Rattle.rules.specs.Parity.{half-first, Odd, Even, parity}
 use Rattle.file_form.specs.Form.{inUse, rowsIn}
 
 -- each row has 32 bytes
@@ -32,7 +32,7 @@ bit-one {q} o = eqb-true (q % 2) 1 (o .here)
 bit-zero : {q : ℕ} → Even q → q % 2 ≡ 0
 bit-zero e = omega (arith, e .twice)
 
-none-left : (q : ℕ) → q < 2 ^ 0 → ones q ≡ 0
+pub none-left : (q : ℕ) → q < 2 ^ 0 → ones q ≡ 0
 unfolding ones onesIn
 none-left zero h = refl
 none-left (suc q) h = absurd (omega arith)
@@ -57,6 +57,15 @@ use-size [] q h w = rw (none-left q h)
 use-size (r ∷ rs) q h w =
     length-append (cond (odd q) r []) (inUse (q / 2) rs)
     ∙ omega (arith, row-size q r (w 0 (omega arith)), use-size rs (q / 2) (half-left q (length rs) h) (whole-rest r rs w), ones-step q)
+
+-- ---- one row more at the end
+
+pub use-more : (rs : List Bytes) (r : Bytes) (q : ℕ) → inUse q (rs ++ (r ∷ [])) ≡ inUse q rs ++ cond (odd (q / 2 ^ length rs)) r []
+unfolding inUse
+use-more [] r q = rw (append-nil, div-one)
+use-more (s ∷ rs) r q =
+    ap (λ (b : Bytes). cond (odd q) s [] ++ b) (use-more rs r (q / 2) ∙ ap (λ (n : ℕ). inUse (q / 2) rs ++ cond (odd n) r []) (sym (half-first q (length rs))))
+    ∙ sym (append-assoc (cond (odd q) s []) (inUse (q / 2) rs) (cond (odd (q / 2 ^ suc (length rs))) r []))
 
 -- ---- rows to bytes to rows
 

@@ -1,0 +1,1 @@
+pub mod Turns  -- one turn of each loop over the rows
