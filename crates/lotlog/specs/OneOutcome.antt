@@ -26,6 +26,9 @@ use Rattle.held.specs.declared.Held.{Held}
 use Rattle.held.specs.Holding.{holds, held-one}
 use Rattle.basis.specs.Told.{heldTold}
 use Rattle.basis.specs.Told as basis
+use Rattle.file_form.specs.Calls.{writeCall, readCall}
+use Rattle.saved.specs.Told.{fileTold}
+use Rattle.saved.specs.Promises as saved
 use Rattle.build.specs.declared.Built.{Built}
 use Rattle.build.specs.Told.{builtTold}
 use Rattle.build.specs.Promises as build
@@ -45,7 +48,7 @@ use Rattle.lookup.specs.Told.{verdictNumber}
 use Rattle.lookup.specs.Told as lookup
 use Rattle.clash.specs.Promises as clash
 use Rattle.lotlog.specs.Exports.{telling, one-told, leaving, one-left, writing, one-wrote, showing, one-showed}
-use Rattle.lotlog.specs.Outcomes.{lotHash, lotStart, lotCount, lotAppend, lotDigestAt, lotAudit, lotHeldStart, lotHeldAt, lotBuildMembership, lotBuildAdvancement, lotCheckMembership, lotCheckAdvancement, lotDispute, lotDiffering}
+use Rattle.lotlog.specs.Outcomes.{lotHash, lotStart, lotCount, lotAppend, lotDigestAt, lotAudit, lotHeldStart, lotHeldAt, lotHeldWrite, lotHeldRead, lotBuildMembership, lotBuildAdvancement, lotCheckMembership, lotCheckAdvancement, lotDispute, lotDiffering}
 use Rattle.lotlog.specs.Recalls.{lotHandle, lotTrieRoot, lotProvePresence, lotProveAbsence, lotCheckPresence, lotCheckAbsence, lotTrieClash}
 
 -- where a crate says that telling loses nothing, answers that are told as one outcome are one
@@ -94,6 +97,14 @@ held-start log = held-one (heldStart hashOf v1 log)
 
 pub basis-held-at : (s : Bytes) (at : ℕ) → One heldTold (heldCall hashOf v1 s at)
 basis-held-at = basis.held-one
+
+-- ---- saved
+
+pub saved-write : (h : Held) (out : Bytes) → One saved.outcome (writeCall hashOf v1 (holds h) out)
+saved-write = saved.write-one
+
+pub saved-read : (f : Bytes) → One fileTold (readCall hashOf v1 f)
+saved-read = saved.read-one
 
 -- ---- build
 
@@ -171,6 +182,12 @@ lot-held-at s at b = one-left (lotHeldAt s at b)
 
 pub lot-held-start : (log : ℕ) → One leaving (lotHeldStart log)
 lot-held-start log = one-left (lotHeldStart log)
+
+pub lot-held-write : (b out : Bytes) → One writing (lotHeldWrite b out)
+lot-held-write b out = one-wrote (lotHeldWrite b out)
+
+pub lot-held-read : (f b : Bytes) → One leaving (lotHeldRead f b)
+lot-held-read f b = one-left (lotHeldRead f b)
 
 pub lot-build-membership : (s : Bytes) (i n : ℕ) (out : Bytes) → One writing (lotBuildMembership s i n out)
 lot-build-membership s i n out = one-wrote (lotBuildMembership s i n out)

@@ -10,6 +10,7 @@ use Rattle.rules.specs.Held.{heldStart}
 use Rattle.rules.specs.Dispute.{differing}
 use Rattle.rules.specs.Calls.{startCall, countCall, appendCall, digestCall, heldCall, buildMembershipCall, buildAdvancementCall, auditCall, memberCall, Advanced, advanceCall, disputeCall}
 use Rattle.wire.specs.Wire.{wireOf, heldIn}
+use Rattle.file_form.specs.Calls.{writeCall, readCall}
 use Rattle.lotlog.specs.Exports.{Told, told, answered, Left, left, unlessRefused, leaves, Wrote, spoken, Showed, shows}
 
 -- ---- hashing
@@ -41,6 +42,13 @@ lotHeldStart log = left done (wireOf (heldStart hashOf v1 log))
 
 unfoldable pub lotHeldAt : Bytes → ℕ → Bytes → Left
 lotHeldAt s at b = let f = heldCall hashOf v1 s at in leaves (f .number) (wireOf (f .held)) b
+
+-- the file of the state that stands in the bytes, and the bytes of the state that stands in a file
+unfoldable pub lotHeldWrite : Bytes → Bytes → Wrote
+lotHeldWrite b out = spoken (writeCall hashOf v1 (heldIn b) out)
+
+unfoldable pub lotHeldRead : Bytes → Bytes → Left
+lotHeldRead f b = let r = readCall hashOf v1 f in leaves (r .number) (wireOf (r .held)) b
 
 -- ---- building proofs
 

@@ -11,12 +11,15 @@ ghost use Rattle.handles.specs.Told.{handleNumber};
 ghost use Rattle.trie.specs.Told.{rootNumber};
 ghost use Rattle.prove.specs.Told as prove;
 ghost use Rattle.lookup.specs.Told.{verdictNumber};
+ghost use Rattle.saved.specs.Told.{savedTold, readingNumber};
 ghost use Rattle.numbers.specs.Saying.{Says};
 use advancement::Advance;
 use audit::Audited;
 use build::Built;
 use handles::HandleAnswer;
 use membership::Verdict;
+use saved::Reading;
+use saved::Saved;
 use store::Appended;
 use store::Counted;
 use store::Found;
@@ -173,5 +176,31 @@ pub fn looked_up(v: lookup::Verdict) -> u64
         lookup::Verdict::KeyTooLong => 3,
         lookup::Verdict::WrongLength => 16,
         lookup::Verdict::RootDiffers => 17,
+    }
+}
+
+// The number and the file's length.
+pub fn saved(s: Saved) -> Said
+    ensures { λ r. ⌜ Says r (savedTold s) ⌝ }
+{
+    match s {
+        Saved::Written { size } => say(0, size),
+        Saved::StateBroken => say(2, 0),
+        Saved::OutputShort => say(6, 0),
+    }
+}
+
+// The number of what reading a file comes to.
+pub fn reading(r: Reading) -> u64
+    ensures { λ n. ⌜ n ≡ readingNumber r ⌝ }
+{
+    match r {
+        Reading::Done => 0,
+        Reading::FileShort => 18,
+        Reading::MarkWrong => 19,
+        Reading::VersionWrong => 20,
+        Reading::CountOver => 21,
+        Reading::LengthWrong => 22,
+        Reading::StateBroken => 2,
     }
 }

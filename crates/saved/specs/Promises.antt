@@ -21,7 +21,7 @@ use Rattle.file_form.specs.Form.{fileOf, fileSize}
 use Rattle.file_form.specs.Calls.{writeCall, readCall}
 use Rattle.file_form.specs.Back.{file-size, order-few}
 use Rattle.file_form.specs.OneFile.{Writes, writes, writes-file, broken-refused, file-reads, read-in-order, read-writes}
-use Rattle.saved.specs.Told.{savedTold, savedFrom, saved-back, readTold, readFrom, read-back}
+use Rattle.saved.specs.Told.{savedTold, savedFrom, saved-back, fileTold, fileFrom, told-back}
 use Rattle.saved.specs.declared.Saved.{Saved}
 use Rattle.saved.specs.declared.Saved.the-variants.{Written, StateBroken}
 use Rattle.saved.specs.declared.FileRead.{FileRead}
@@ -37,8 +37,8 @@ pub write-one : (h : Held) (out : Bytes) → One outcome (writeCall hashOf v1 (h
 write-one h out =
     one-outcome outcome (λ (w : calls.Written). (savedFrom (w .answer), w .bytes)) (λ x. ap (λ (s : Saved). (s, x .1)) (saved-back (x .0))) (writeCall hashOf v1 (holds h) out)
 
-pub read-one : (f : Bytes) → One readTold (readCall hashOf v1 f)
-read-one f = one-outcome readTold readFrom read-back (readCall hashOf v1 f)
+pub read-one : (f : Bytes) → One fileTold (readCall hashOf v1 f)
+read-one f = one-outcome fileTold fileFrom told-back (readCall hashOf v1 f)
 
 -- ---- exactly the states in order can be written; o is the output after the call
 
@@ -56,7 +56,7 @@ module _ (h : Held) (out o : Bytes) (s : Saved) (met : outcome (s, o) ≡ writeC
 
 -- ---- what is written reads back; o is the output after the call, and r what is read from the bytes that were written
 
-module _ (h : Held) (s : Sized v1 (holds h)) (out o : Bytes) (size : ℕ) (met : outcome (Written size, o) ≡ writeCall hashOf v1 (holds h) out) (r : FileRead) (read : readTold r ≡ readCall hashOf v1 (take size o)) where
+module _ (h : Held) (s : Sized v1 (holds h)) (out o : Bytes) (size : ℕ) (met : outcome (Written size, o) ≡ writeCall hashOf v1 (holds h) out) (r : FileRead) (read : fileTold r ≡ readCall hashOf v1 (take size o)) where
   wrote : Writes hashOf v1 (holds h) out
   wrote = writes hashOf v1 (holds h) out (sym (ap (λ (w : calls.Written). w .answer .number) met))
 
@@ -69,12 +69,12 @@ module _ (h : Held) (s : Sized v1 (holds h)) (out o : Bytes) (size : ℕ) (met :
       ap (λ (w : calls.Written). take (w .answer .value) (w .bytes)) filed
       ∙ take-at (fileOf v1 (holds h)) (drop (length (fileOf v1 (holds h))) out) (fileSize (h .count .0)) (file-size v1 (holds h) s (order-few hashOf v1 (holds h) (wrote .ordered)))
 
-  backed : readTold r ≡ heldFound done (holds h)
+  backed : fileTold r ≡ heldFound done (holds h)
   backed = read ∙ ap (readCall hashOf v1) wrote-file ∙ file-reads hashOf v1 (holds h) s (wrote .ordered)
 
   -- WHAT IS WRITTEN IS READ,
   pub saved-reads : r .reading ≡ Done
-  saved-reads = ap (λ (x : FileRead). x .reading) (sym (read-back r) ∙ ap readFrom backed)
+  saved-reads = ap (λ (x : FileRead). x .reading) (sym (told-back r) ∙ ap fileFrom backed)
 
   -- AS THE STATE ITSELF;
   pub saved-same : r .held ≡ h
@@ -86,9 +86,9 @@ module _ (h : Held) (s : Sized v1 (holds h)) (out o : Bytes) (size : ℕ) (met :
 
 -- ---- what was read, from the file f; lent memory holds bytes
 
-module _ (f : Bytes) (bytes : AreBytes f) (r : FileRead) (read : readTold r ≡ readCall hashOf v1 f) (done-reading : r .reading ≡ Done) where
+module _ (f : Bytes) (bytes : AreBytes f) (r : FileRead) (read : fileTold r ≡ readCall hashOf v1 f) (done-reading : r .reading ≡ Done) where
   given : readCall hashOf v1 f ≡ heldFound done (holds (r .held))
-  given = sym read ∙ ap (λ (x : FileRead). readTold x) (ap (λ x. record { reading = x; held = r .held }) done-reading)
+  given = sym read ∙ ap (λ (x : FileRead). fileTold x) (ap (λ x. record { reading = x; held = r .held }) done-reading)
 
   -- WHAT IS READ IS IN ORDER,
   pub read-ordered : inOrder hashOf v1 (holds (r .held)) ≡ true

@@ -58,11 +58,11 @@ reading-back reading.CountOver = refl
 reading-back reading.LengthWrong = refl
 reading-back reading.StateBroken = refl
 
-abbrev pub readTold : FileRead → HeldFound
-readTold r = heldFound (readingNumber (r .reading)) (holds (r .held))
+abbrev pub fileTold : FileRead → HeldFound
+fileTold r = heldFound (readingNumber (r .reading)) (holds (r .held))
 
-abbrev pub readFrom : HeldFound → FileRead
-readFrom f = record { reading = readingFrom (f .number); held = heldFrom (f .held) }
+abbrev pub fileFrom : HeldFound → FileRead
+fileFrom f = record { reading = readingFrom (f .number); held = heldFrom (f .held) }
 
-pub read-back : (r : FileRead) → readFrom (readTold r) ≡ r
-read-back r = ap₂ (λ (x : Reading) (h : Held). record { reading = x; held = h }) (reading-back (r .reading)) (held-back (r .held))
+pub told-back : (r : FileRead) → fileFrom (fileTold r) ≡ r
+told-back r = ap₂ (λ (x : Reading) (h : Held). record { reading = x; held = h }) (reading-back (r .reading)) (held-back (r .held))

@@ -14,7 +14,7 @@ ghost use Rattle.rules.specs.Calls.{written};
 ghost use Rattle.held.specs.Holding.{rowsOf, holds};
 ghost use Rattle.file_form.specs.Form.{hld, head as headOf, headSize, inUse, fileSize, markIn, versionIn, countIn, rowsIn, stateIn};
 ghost use Rattle.file_form.specs.Calls.{unread, writeCall, readCall};
-ghost use Rattle.saved.specs.Told.{savedTold, readingNumber, readTold};
+ghost use Rattle.saved.specs.Told.{savedTold, readingNumber, fileTold};
 use hash::Digest;
 use held::Held;
 use path::Length;
@@ -185,7 +185,7 @@ fn held_in(file: &[u8]) -> Held
 
 // What a file that is not taken gives.
 fn refused(reading: Reading) -> FileRead
-    ensures { λ r. ⌜ readTold r ≡ unread hashOf v1 (readingNumber reading) ⌝ }
+    ensures { λ r. ⌜ fileTold r ≡ unread hashOf v1 (readingNumber reading) ⌝ }
 {
     FileRead {
         reading: reading,
@@ -195,7 +195,7 @@ fn refused(reading: Reading) -> FileRead
 
 // The state that a file gives.
 pub fn read(file: &[u8]) -> FileRead
-    ensures { λ r. ⌜ readTold r ≡ readCall hashOf v1 (now (file .entry)) ⌝ }
+    ensures { λ r. ⌜ fileTold r ≡ readCall hashOf v1 (now (file .entry)) ⌝ }
 {
     if file.len() < HEAD {
         return refused(Reading::FileShort);
