@@ -48,6 +48,7 @@ computed =
     ∷ (reads made.savedNone, 0 ∷ told (heldStart hashOf v1 7))
     ∷ (reads made.savedTwo, 0 ∷ told two)
     ∷ (reads made.savedThree, 0 ∷ told three)
+    ∷ (reads [], 18 ∷ replicate 674 0)
     ∷ (says (take 52 made.savedNone) ∷ says (set made.savedTwo 2 76) ∷ says (set made.savedTwo 4 2) ∷ says (set made.savedTwo 18 16) ∷ [], 18 ∷ 19 ∷ 20 ∷ 21 ∷ [])
     ∷ (says (set made.savedTwo 20 3) ∷ says (made.savedTwo ++ (0 ∷ [])) ∷ says (set made.savedNone 12 8) ∷ [], 22 ∷ 22 ∷ 2 ∷ [])
     ∷ []

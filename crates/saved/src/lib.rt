@@ -140,11 +140,11 @@ fn row_if_used(file: &[u8], at: usize, q: u64) -> Digest
     requires { ⌜ at + 32 * (q % 2) ≤ length (now file) ⌝ }
     ensures { λ r. ⌜ r .bytes ≡ cond (odd q) (take 32 (drop at (now (file .entry)))) zeros ⌝ }
 {
-    if q % 2 == 0 {
-        return Digest { bytes: [0u8; 32] };
+    if q % 2 == 1 {
+        let row = lists::row_at(file, at);
+        return Digest { bytes: row };
     }
-    let row = lists::row_at(file, at);
-    Digest { bytes: row }
+    Digest { bytes: [0u8; 32] }
 }
 
 // The rows of a state with so many elements: those in use as they stand in its file, the others zero.
@@ -213,12 +213,12 @@ pub fn read(file: &[u8]) -> FileRead
     if file.len() != file_len(count) {
         return refused(Reading::LengthWrong);
     }
-    let h = held_in(file);
-    if !held::is_in_order(h) {
+    let state = held_in(file);
+    if !held::is_in_order(state) {
         return refused(Reading::StateBroken);
     }
     FileRead {
         reading: Reading::Done,
-        held: h,
+        held: state,
     }
 }

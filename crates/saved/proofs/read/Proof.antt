@@ -108,7 +108,7 @@ returns-5 c =
     let m = w .before .before in
     let f = now (m .before .before .before .before .args .file) in
     c .refused5 .ensures
-    ∙ sym (read-is hashOf v1 f (long (m .before .before)) (marked m) (versioned w) (few e) (ne-eqb _ _ (λ g. c .before .if5 .taken (g ∙ sym (size s)))) refl)
+    ∙ sym (read-is hashOf v1 f (long (m .before .before)) (marked m) (versioned w) (few e) (ne-eqb (length f) (fileSize (countIn f)) (λ g. omega (arith, c .before .if5 .taken, size s))) refl)
 
 held-in-requires : tie.Need-held-in-requires
 held-in-requires c κs = sized c
