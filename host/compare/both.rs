@@ -7,11 +7,11 @@ use std::marker::PhantomData;
 
 use lotlog::{Answer, Digest, Held, Side};
 
-use crate::calls::{AdvanceCalls, HashCalls, MemberCalls, StoreCalls, TrieCalls};
+use crate::calls::{AdvanceCalls, HashCalls, MemberCalls, SavedCalls, StoreCalls, TrieCalls};
 use crate::second_calls::Second;
 
 /// What lent memory holds before a call that is to write it.
-const BEFORE: u8 = 0xEE;
+pub const BEFORE: u8 = 0xEE;
 
 const GUARD: usize = 64;
 const GUARD_BYTE: u8 = 0xA5;
@@ -244,6 +244,38 @@ impl<C: AdvanceCalls> Both<C> {
         self.agree(answer, wanted_answer, call);
         ours.must_be(&wanted, call);
         (wanted_answer, wanted)
+    }
+}
+
+impl<C: SavedCalls> Both<C> {
+    /// Writes into an output of `room` bytes; returns the answer and the output.
+    pub fn held_write(&mut self, held: &Held, room: usize) -> (Answer, Vec<u8>) {
+        let mut wanted = vec![BEFORE; room];
+        let mut ours = Lent::of(&wanted);
+        let answer = C::held_write(held, ours.lend());
+        let wanted_answer = Second::held_write(held, &mut wanted);
+        let call = || {
+            let count = u64::from_be_bytes(held[8..16].try_into().expect("8 bytes"));
+            format!("file of a held state at {}, room of {}", count, room)
+        };
+        self.agree(answer, wanted_answer, call);
+        ours.must_be(&wanted, call);
+        (wanted_answer, wanted)
+    }
+
+    /// Reads a file; returns the number and what the lent state holds then.
+    pub fn held_read(&mut self, file: &[u8]) -> (u64, Held) {
+        let mut wanted = [BEFORE; 688];
+        let mut ours = Lent::of(&wanted);
+        let number = C::held_read(file, ours.lend_array());
+        let wanted_number = Second::held_read(file, &mut wanted);
+        let call = || {
+            let head = &file[..file.len().min(21)];
+            format!("held state of a file of {} bytes with the head {:02x?}", file.len(), head)
+        };
+        self.agree(number, wanted_number, call);
+        ours.must_be(&wanted, call);
+        (wanted_number, wanted)
     }
 }
 

@@ -32,6 +32,12 @@ pub trait AdvanceCalls {
     fn check_advancement(held: &mut Held, n: u64, digest: &Digest, proof: &[u8]) -> Answer;
 }
 
+/// Held states in files.
+pub trait SavedCalls {
+    fn held_write(held: &Held, out: &mut [u8]) -> Answer;
+    fn held_read(file: &[u8], held: &mut Held) -> u64;
+}
+
 /// The dictionary: handles, root, both kinds of proof, clashes.
 pub trait TrieCalls {
     fn handle(key: &[u8], handle: &mut Digest) -> u64;

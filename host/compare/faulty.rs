@@ -4,11 +4,12 @@
 
 use lotlog::{Answer, Digest, Held, Side};
 use second::hash::{Hash, Sha256};
+use second::saved::{file_length, FILE_LEAST, FILE_MOST};
 use second::store::{HEADER, OPEN, RECORD, STATE};
 use second::trie::climbed;
-use second::{message, ENTRY_MOST};
+use second::{message, ENTRY_MOST, LIMIT};
 
-use crate::calls::{AdvanceCalls, HashCalls, MemberCalls, StoreCalls, TrieCalls};
+use crate::calls::{AdvanceCalls, HashCalls, MemberCalls, SavedCalls, StoreCalls, TrieCalls};
 use crate::second_calls::Second;
 
 /// The second program with one of the faults below.
@@ -61,6 +62,40 @@ pub const OPEN_IS_ZERO: usize = 40;
 pub const ZERO_IS_OPEN_TOO: usize = 41;
 pub const STARTS_WITH_ZEROS: usize = 42;
 pub const MISSES_A_LAST_BIT: usize = 43;
+pub const ROWS_HIGHEST_FIRST: usize = 44;
+pub const ALL_ROWS_WRITTEN: usize = 45;
+pub const ROW_BY_ITS_CONTENTS: usize = 46;
+pub const LAST_ROW_LEFT_OUT: usize = 47;
+pub const COUNT_LITTLE_ENDIAN: usize = 48;
+pub const CLEARS_BEHIND_THE_FILE: usize = 49;
+pub const WRITES_ANY_STATE: usize = 50;
+pub const WRITES_OVER_THE_LIMIT: usize = 51;
+pub const WRITES_ANY_LAST_ROW: usize = 52;
+pub const WRITES_ANY_START: usize = 53;
+pub const ROOM_BEFORE_THE_STATE: usize = 54;
+pub const LENGTH_BESIDE_6: usize = 55;
+pub const WRITES_A_PART: usize = 56;
+pub const MARK_NOT_COMPARED: usize = 57;
+pub const LAST_OF_THE_MARK_NOT_COMPARED: usize = 58;
+pub const TAKES_VERSION_2: usize = 59;
+pub const FIRST_OF_THE_VERSION_IGNORED: usize = 60;
+pub const COUNT_OF_32_BITS: usize = 61;
+pub const TAIL_OF_A_FILE_IGNORED: usize = 62;
+pub const MISSING_ROWS_ARE_ZERO: usize = 63;
+pub const READS_ANY_START: usize = 64;
+pub const NEEDS_54_BYTES: usize = 65;
+pub const MARK_BEFORE_53_BYTES: usize = 66;
+pub const VERSION_BEFORE_THE_MARK: usize = 67;
+pub const COUNT_BEFORE_THE_VERSION: usize = 68;
+pub const LIMIT_IS_OVER: usize = 69;
+pub const LENGTH_BEFORE_53_BYTES: usize = 70;
+pub const NO_LIMIT_OF_THE_COUNT: usize = 71;
+pub const LENGTH_BEFORE_THE_COUNT: usize = 72;
+pub const START_BEFORE_THE_LENGTH: usize = 73;
+pub const REFUSES_A_DIGEST_OF_ZEROS: usize = 74;
+pub const REFUSES_A_ROW_OF_ZEROS: usize = 75;
+pub const REFUSED_FILE_CLEARS: usize = 76;
+pub const KEEPS_FREE_ROWS: usize = 77;
 
 impl<const FAULT: usize> HashCalls for Faulty<FAULT> {
     fn hash(message: &[u8], digest: &mut Digest) -> u64 {
@@ -224,6 +259,184 @@ impl<const FAULT: usize> AdvanceCalls for Faulty<FAULT> {
 /// The 32-byte parts of a list or a proof; what is left over is not among them.
 fn parts(bytes: &[u8]) -> Vec<Digest> {
     bytes.chunks_exact(32).map(|part| part.try_into().expect("32 bytes")).collect()
+}
+
+/// The count of a held state, which stands behind the log number.
+fn held_count(held: &Held) -> u64 {
+    u64::from_be_bytes(held[8..16].try_into().expect("8 bytes"))
+}
+
+/// Whether a held state would be in order with a change.
+fn would_be_in_order(held: &Held, change: impl Fn(&mut Held)) -> bool {
+    let mut other = *held;
+    change(&mut other);
+    Second::held_write(&other, &mut [0; FILE_MOST]).number == 0
+}
+
+/// Gives a held state T(0) of its log as its digest.
+fn set_start(held: &mut Held) {
+    let log = u64::from_be_bytes(held[..8].try_into().expect("8 bytes"));
+    held[16..48].copy_from_slice(&message::start_digest::<Sha256>(log));
+}
+
+/// Writes a file to an output.
+fn put(file: &[u8], out: &mut [u8]) -> Answer {
+    if out.len() < file.len() {
+        return Answer { number: 6, beside: [0; 3] };
+    }
+    out[..file.len()].copy_from_slice(file);
+    Answer { number: 0, beside: [file.len() as u64, 0, 0] }
+}
+
+/// A file with other bytes at a place, as far as it has bytes there.
+fn with_bytes(file: &[u8], at: usize, bytes: &[u8]) -> Vec<u8> {
+    let mut other = file.to_vec();
+    other.iter_mut().skip(at).zip(bytes).for_each(|(byte, new)| *byte = *new);
+    other
+}
+
+/// The number that a file is read with.
+fn number_of(file: &[u8]) -> u64 {
+    Second::held_read(file, &mut [0; 688])
+}
+
+/// The length that the count of a file asks for. The file has its 53 bytes.
+fn length_asked(file: &[u8]) -> usize {
+    file_length(u64::from_be_bytes(file[13..21].try_into().expect("8 bytes")))
+}
+
+impl<const FAULT: usize> Faulty<FAULT> {
+    /// The file of a held state, in order or not, with the faults in its form.
+    fn file(held: &Held) -> Vec<u8> {
+        let in_use = |row: usize| held_count(held) >> row & 1 == 1;
+        let has = |row: usize, bytes: &[u8]| match FAULT {
+            ALL_ROWS_WRITTEN => true,
+            ROW_BY_ITS_CONTENTS => bytes != [0; 32],
+            LAST_ROW_LEFT_OUT => in_use(row) && row < 19,
+            _ => in_use(row),
+        };
+        let rows = held[48..].chunks(32).enumerate().filter(|(row, bytes)| has(*row, bytes));
+        let mut rows: Vec<&[u8]> = rows.map(|(_, bytes)| bytes).collect();
+        if FAULT == ROWS_HIGHEST_FIRST {
+            rows.reverse();
+        }
+        let mut file = [b"HLD\x00\x01", &held[..48], &rows.concat()].concat();
+        if FAULT == COUNT_LITTLE_ENDIAN {
+            file[13..21].reverse();
+        }
+        file
+    }
+
+    /// Whether a state that is not in order is written all the same.
+    fn takes_state(held: &Held) -> bool {
+        match FAULT {
+            WRITES_ANY_STATE => true,
+            WRITES_OVER_THE_LIMIT => held_count(held) > LIMIT,
+            WRITES_ANY_LAST_ROW => would_be_in_order(held, |other| other[656..].fill(0)),
+            WRITES_ANY_START => would_be_in_order(held, set_start),
+            _ => false,
+        }
+    }
+
+    /// The file that a fault takes a file for, which has this number.
+    fn taken_for(file: &[u8], number: u64) -> Option<Vec<u8>> {
+        Some(match (FAULT, number) {
+            (ROWS_HIGHEST_FIRST, 0) => {
+                let mut rows = parts(&file[FILE_LEAST..]);
+                rows.reverse();
+                [&file[..FILE_LEAST], &rows.concat()].concat()
+            }
+            (COUNT_LITTLE_ENDIAN, 0 | 21 | 22) => {
+                let turned: Vec<u8> = file[13..21].iter().rev().copied().collect();
+                with_bytes(file, 13, &turned)
+            }
+            (MARK_NOT_COMPARED, 19) => with_bytes(file, 0, b"HLD"),
+            (LAST_OF_THE_MARK_NOT_COMPARED, 19) => with_bytes(file, 2, b"D"),
+            (TAKES_VERSION_2, 20) if file[3..5] == [0, 2] => with_bytes(file, 4, &[1]),
+            (FIRST_OF_THE_VERSION_IGNORED, 20) => with_bytes(file, 3, &[0]),
+            (COUNT_OF_32_BITS, 21) => with_bytes(file, 13, &[0; 4]),
+            (TAIL_OF_A_FILE_IGNORED, 22) if file.len() > length_asked(file) => {
+                file[..length_asked(file)].to_vec()
+            }
+            (MISSING_ROWS_ARE_ZERO, 22) if file.len() < length_asked(file) => {
+                [file, &vec![0; length_asked(file) - file.len()]].concat()
+            }
+            _ => return None,
+        })
+    }
+
+    /// The number that a fault gives for a file which has this one.
+    fn number_for(file: &[u8], number: u64) -> u64 {
+        let marked = with_bytes(file, 0, b"HLD");
+        let versioned = with_bytes(file, 3, &[0, 1]);
+        let row_of_zeros = || parts(&file[FILE_LEAST..]).contains(&[0; 32]);
+        match (FAULT, number) {
+            (NEEDS_54_BYTES, 0) if file.len() == FILE_LEAST => 18,
+            (MARK_BEFORE_53_BYTES, 18) if !file.starts_with(b"HLD") => 19,
+            (VERSION_BEFORE_THE_MARK, 19) if number_of(&marked) == 20 => 20,
+            (COUNT_BEFORE_THE_VERSION, 20) if number_of(&versioned) == 21 => 21,
+            (LIMIT_IS_OVER, 0) if file[13..21] == LIMIT.to_be_bytes() => 21,
+            (LENGTH_BEFORE_53_BYTES, 18) | (NO_LIMIT_OF_THE_COUNT, 21) => 22,
+            (LENGTH_BEFORE_THE_COUNT, 21) if file.len() != length_asked(file) => 22,
+            (START_BEFORE_THE_LENGTH, 22) if number_of(&file[..FILE_LEAST]) == 2 => 2,
+            (REFUSES_A_DIGEST_OF_ZEROS, 0) if file[21..FILE_LEAST] == [0; 32] => 2,
+            (REFUSES_A_ROW_OF_ZEROS, 0) if row_of_zeros() => 2,
+            _ => number,
+        }
+    }
+}
+
+impl<const FAULT: usize> SavedCalls for Faulty<FAULT> {
+    fn held_write(held: &Held, out: &mut [u8]) -> Answer {
+        let answer = Second::held_write(held, out);
+        let need = file_length(held_count(held));
+        match (FAULT, answer.number) {
+            (ROWS_HIGHEST_FIRST | ALL_ROWS_WRITTEN | ROW_BY_ITS_CONTENTS, 0)
+            | (LAST_ROW_LEFT_OUT | COUNT_LITTLE_ENDIAN, 0) => put(&Self::file(held), out),
+            (CLEARS_BEHIND_THE_FILE, 0) => {
+                out[need..].fill(0);
+                answer
+            }
+            (_, 2) if Self::takes_state(held) => put(&Self::file(held), out),
+            (ROOM_BEFORE_THE_STATE, 2) if out.len() < need => Answer { number: 6, ..answer },
+            (LENGTH_BESIDE_6, 6) => Answer { beside: [need as u64, 0, 0], ..answer },
+            (WRITES_A_PART, 6) => {
+                out.copy_from_slice(&Self::file(held)[..out.len()]);
+                answer
+            }
+            _ => answer,
+        }
+    }
+
+    fn held_read(file: &[u8], held: &mut Held) -> u64 {
+        let mut state = *held;
+        let number = Second::held_read(file, &mut state);
+        if let Some(other) = Self::taken_for(file, number) {
+            return Second::held_read(&other, held);
+        }
+        match (FAULT, number) {
+            (READS_ANY_START, 2) => {
+                state = [0; 688];
+                state[..48].copy_from_slice(&file[5..FILE_LEAST]);
+                *held = state;
+                return 0;
+            }
+            (REFUSED_FILE_CLEARS, 1..) => *held = [0; 688],
+            (KEEPS_FREE_ROWS, 0) => {
+                let count = held_count(&state);
+                for row in (0..20).filter(|row| count >> row & 1 == 0) {
+                    let place = 48 + 32 * row..80 + 32 * row;
+                    state[place.clone()].copy_from_slice(&held[place]);
+                }
+            }
+            _ => (),
+        }
+        let given = Self::number_for(file, number);
+        if given == 0 {
+            *held = state;
+        }
+        given
+    }
 }
 
 /// A presence proof checked by other turns at the inner nodes: those of another handle.

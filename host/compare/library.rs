@@ -5,7 +5,7 @@
 
 use lotlog::{Answer, Digest, Held, Side};
 
-use crate::calls::{AdvanceCalls, HashCalls, MemberCalls, StoreCalls, TrieCalls};
+use crate::calls::{AdvanceCalls, HashCalls, MemberCalls, SavedCalls, StoreCalls, TrieCalls};
 
 /// The proved library.
 pub enum Library {}
@@ -85,6 +85,18 @@ impl AdvanceCalls for Library {
     #[inline]
     fn check_advancement(held: &mut Held, n: u64, digest: &Digest, proof: &[u8]) -> Answer {
         lotlog::check_advancement(held, n, digest, proof)
+    }
+}
+
+impl SavedCalls for Library {
+    #[inline]
+    fn held_write(held: &Held, out: &mut [u8]) -> Answer {
+        lotlog::held_write(held, out)
+    }
+
+    #[inline]
+    fn held_read(file: &[u8], held: &mut Held) -> u64 {
+        lotlog::held_read(file, held)
     }
 }
 

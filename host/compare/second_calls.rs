@@ -5,9 +5,9 @@ use second::dispute::{self, Found};
 use second::hash::{self, Sha256};
 use second::refusal;
 use second::trie::{self, Shown};
-use second::{held, proof, store};
+use second::{held, proof, saved, store};
 
-use crate::calls::{AdvanceCalls, HashCalls, MemberCalls, StoreCalls, TrieCalls};
+use crate::calls::{AdvanceCalls, HashCalls, MemberCalls, SavedCalls, StoreCalls, TrieCalls};
 
 /// The second program.
 pub enum Second {}
@@ -125,6 +125,16 @@ impl AdvanceCalls for Second {
                 hops
             },
         ))
+    }
+}
+
+impl SavedCalls for Second {
+    fn held_write(held: &Held, out: &mut [u8]) -> Answer {
+        one_number(saved::write::<Sha256>(&held_of_bytes(held), out))
+    }
+
+    fn held_read(file: &[u8], held: &mut Held) -> u64 {
+        lent(saved::read::<Sha256>(file).map(|state| held_bytes(&state)), held)
     }
 }
 

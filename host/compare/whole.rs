@@ -2,19 +2,20 @@
 
 use lotlog::Side;
 use second::dispute::BUFFER_LEAST;
-use second::hash::HASH_MOST;
+use second::hash::{Sha256, HASH_MOST};
+use second::held::held_of;
 use second::path::{advancement, membership, proof_length};
 use second::store::{place, Log, HEADER, RECORD, STATE};
 use second::ENTRY_MOST;
 
 use crate::advance::Step;
 use crate::both::Both;
-use crate::calls::{AdvanceCalls, HashCalls, MemberCalls, StoreCalls, TrieCalls};
+use crate::calls::{AdvanceCalls, HashCalls, MemberCalls, SavedCalls, StoreCalls, TrieCalls};
 use crate::damage::spoiled;
 use crate::logs::{read, sound};
 use crate::member::Claim;
 use crate::random::Random;
-use crate::trie;
+use crate::{saved, trie};
 
 /// The lengths of the logs that the calls work on. They leave room for elements, or do not.
 const LOGS: [(u64, u64); 9] =
@@ -23,7 +24,7 @@ const LOGS: [(u64, u64); 9] =
 /// Makes so many random calls or a few more.
 pub fn run<C>(both: &mut Both<C>, seed: u64, calls: u64)
 where
-    C: HashCalls + StoreCalls + MemberCalls + AdvanceCalls + TrieCalls,
+    C: HashCalls + StoreCalls + MemberCalls + AdvanceCalls + SavedCalls + TrieCalls,
 {
     LOGS.iter().for_each(|(elements, room)| old_store(both, *elements, *room));
     let stores = LOGS.map(|(elements, room)| sound(elements, room));
@@ -32,7 +33,7 @@ where
     let enough = both.calls + calls;
     while both.calls < enough {
         let store = &stores[random.place(stores.len())];
-        match random.below(25) {
+        match random.below(27) {
             0 => hash(both, &mut random),
             1 => start(both, store, &mut random),
             2 | 3 => look(both, store, &mut random),
@@ -41,7 +42,8 @@ where
             8 | 9 => build_advancement(both, store, &mut random),
             10..=14 => check_membership(both, store, &mut random),
             15..=19 => check_advancement(both, store, &mut random),
-            20 => trie::any_call(both, &claims, &mut random),
+            20 | 21 => save(both, store, &mut random),
+            22 => trie::any_call(both, &claims, &mut random),
             _ => dispute(both, store, &mut random),
         }
     }
@@ -238,6 +240,12 @@ fn check_advancement<C: AdvanceCalls>(both: &mut Both<C>, store: &[u8], random: 
     let digest = maybe_changed(honest.digest, 6, random);
     let proof = maybe_spoiled(&honest.proof, 2, random);
     Step { held, n, digest, proof }.check(both);
+}
+
+fn save<C: SavedCalls>(both: &mut Both<C>, store: &[u8], random: &mut Random) {
+    let log = read(store);
+    let state = held_of::<Sha256>(&log, held_number(&log, random));
+    saved::any_call(both, &state, random);
 }
 
 fn dispute<C: MemberCalls>(both: &mut Both<C>, store: &[u8], random: &mut Random) {

@@ -9,7 +9,8 @@
 use std::path::PathBuf;
 use std::{env, fs, process};
 
-use lotlog::{meaning, store_bytes, Answer, Digest, Held, Side, TRIE_PROOF_MOST, WHOLE};
+use lotlog::{meaning, store_bytes, Answer, Digest, Held, Side};
+use lotlog::{HELD_FILE_MOST, TRIE_PROOF_MOST, WHOLE};
 
 const LOG: u64 = 7;
 const ROOM: usize = 16;
@@ -45,6 +46,11 @@ impl Files {
     fn write(&self, name: &str, bytes: &[u8]) {
         let path = self.0.join(name);
         fs::write(&path, bytes).unwrap_or_else(|error| panic!("{}: {}", path.display(), error));
+    }
+
+    fn remove(&self, name: &str) {
+        let path = self.0.join(name);
+        fs::remove_file(&path).unwrap_or_else(|error| panic!("{}: {}", path.display(), error));
     }
 }
 
@@ -147,6 +153,22 @@ fn advance(files: &Files, n: u64, hops: u64) {
     files.write("held.after", &held);
 }
 
+/// The practice saves what it holds to a file, which has the length that is given. Then its terminal
+/// is gone with all that was on it, and a new one reads the file.
+fn replace_terminal(files: &Files, length: u64) {
+    let mut out = [0; HELD_FILE_MOST];
+    let answer = lotlog::held_write(&files.array("held.after"), &mut out);
+    let length = tell_named("save what is held", answer, [0, length], "length");
+    files.write("held.file", &out[..length as usize]);
+    files.remove("held.before");
+    files.remove("held.after");
+
+    let mut held = [0; 688];
+    let number = lotlog::held_read(&files.read("held.file"), &mut held);
+    tell_done("read what was saved", number, "");
+    files.write("held.after", &held);
+}
+
 /// The digest that a practice goes by: the one in its held state.
 fn held_digest(files: &Files, name: &str) -> Digest {
     let held: Held = files.array(name);
@@ -180,6 +202,13 @@ fn refusals(files: &Files, notice: Lot, other: &[u8], n: u64) {
     tell("the proof without its last byte", answer, [7, 0], "");
     let old = held_digest(files, "held.before");
     tell_named("an old digest", check(notice.entry, &old, &proof), [11, 3], "hops");
+}
+
+/// The saved file is read without its last byte.
+fn read_cut(files: &Files) {
+    let file = files.read("held.file");
+    let number = lotlog::held_read(&file[..file.len() - 1], &mut [0; 688]);
+    tell_alone("the saved file without its last byte", number, 22, "");
 }
 
 /// Audits of the store with one byte changed: of a lot's record, and the last one, which says that the
@@ -262,6 +291,9 @@ fn story(lots: &[&[u8]], files: &Files) {
     advance(files, early, 1);
     check(files, notice, early, 2);
 
+    println!("The practice's terminal is replaced, and a new one goes on from a file.");
+    replace_terminal(files, 85);
+
     println!("The house appends the rest, and the practice goes on.");
     let late = append_all(files, &lots[8..], 12, "more");
     publish(files, notice, early, late, [128, 448]);
@@ -272,6 +304,7 @@ fn story(lots: &[&[u8]], files: &Files) {
     println!("What is not so is refused.");
     refusals(files, notice, lots[0], late);
     audit_changed(files, notice);
+    read_cut(files);
 
     println!("Two practices were shown the same proof.");
     dispute(files, notice, late);

@@ -3,14 +3,19 @@
 //! The log has number 7 and three entries: the empty one, "A", and the 33 bytes from 0x61 upward.
 //! Its figures stand in figures.txt, first under the stand-in hash and then under SHA-256, so that
 //! the definitions of the proofs can be held to values from outside. Its store has room for one
-//! entry more. Rows of the held state that are not printed are zero. Beside it stand figures of a dictionary of three keys: the empty one,
-//! "A" and "C". Siblings that are not printed are zero too.
+//! entry more. Rows of the held state that are not printed are zero. Beside it stand figures of a
+//! dictionary of three keys: the empty one, "A" and "C". Siblings that are not printed are zero
+//! too.
+//!
+//! At the end stand the files of held states, whole. For these the log goes on to twelve elements:
+//! from 4 on, the entry of element j is j bytes of the value j.
 
 use second::hash::{Hash, Sha256, Xor};
 use second::held::held_of;
 use second::message::entry_digest;
 use second::path::{advancement, membership};
 use second::proof::proof_of;
+use second::saved::file_of;
 use second::store::{store_of, Log};
 use second::trie::{self, Kind, PROOF_MOST};
 use second::Digest;
@@ -76,6 +81,16 @@ fn print_trie<H: Hash>(hash: &str) {
     print_siblings::<H>(hash, "absence(B)", Kind::Absence, &list, b"B");
 }
 
+/// Files with no row, with two rows, with a free row between them, and with free rows below them.
+fn print_files<H: Hash>(hash: &str) {
+    let more = (4..=12).map(|j| vec![j; usize::from(j)]);
+    let store = store_of::<H>(LOG, 12, entries().into_iter().chain(more));
+    let log = Log::read(&store).expect("a sound store");
+    for at in [0, 3, 5, 12] {
+        print(&format!("{}.file({})", hash, at), &file_of(&held_of::<H>(&log, at)));
+    }
+}
+
 fn main() {
     for (j, entry) in (1..).zip(entries()) {
         print(&format!("entry({})", j), &entry);
@@ -84,4 +99,6 @@ fn main() {
     print_log::<Sha256>("sha256");
     print_trie::<Xor>("standin");
     print_trie::<Sha256>("sha256");
+    print_files::<Xor>("standin");
+    print_files::<Sha256>("sha256");
 }

@@ -8,7 +8,8 @@
  * Every call returns a number of documents 01 and 02: 0 for done, else the refusal.
  *
  *    1  store under 16 bytes, wrong header, or damage in the state bytes or their order
- *    2  held state over the limit, a free row not zero, or count 0 with a digest that is not T(0)
+ *    2  held state over the limit, a free row not zero, or count 0 with a digest that is not T(0);
+ *       held file with count 0 and such a digest
  *    3  entry or key over 4,096 bytes; message over 65,536 bytes
  *    4  no such position or length
  *    5  no open record, or the log is full
@@ -24,6 +25,11 @@
  *   15  presence asked of a key that is absent, or absence of one that is present
  *   16  trie proof: not 256 siblings (presence), or not 0 to 256 whole ones (absence)
  *   17  root differs
+ *   18  held file under 53 bytes
+ *   19  held file: wrong mark
+ *   20  held file: wrong version
+ *   21  held file: count over the limit
+ *   22  held file: length not that of its count
  *
  * Lent memory. A refused call leaves every store, digest, handle, root, held state, output and buffer
  * as it was. `answer` is no lent memory in that sense: it is written whole by each call that takes it,
@@ -44,6 +50,9 @@
  *               then records of 65 bytes: d (32), T (32), state byte (255 open, 1 closed;
  *               any other, 0 too, is damage)
  *   held state  688 bytes: log number (8), count (8), digest (32), 20 rows of 32 bytes
+ *   held file   53 bytes: "HLD", version 1 (2), log number (8), count (8), digest (32);
+ *               then the rows in use, 32 bytes each, lowest level first: row l is in use if bit l
+ *               of the count is 1, whatever it holds
  *   component   of element j with f trailing zero bits: d, T(j-1), T(j-2), T(j-4) .. T(j-2^f)
  *   proof       membership (i, n): the components of the path from i to n, both included;
  *               advancement: the same without i
@@ -77,6 +86,8 @@ extern "C" {
 #define LOT_PROOF_MOST 14048      /* the longest proof, in bytes */
 #define LOT_DISPUTE_LEAST 4097    /* the least room of a dispute's buffer, in bytes */
 #define LOT_APPEND_WHOLE 65       /* the `stop` of an append that is not cut */
+#define LOT_HELD_FILE_LEAST 53    /* the shortest held file, that of count 0, in bytes */
+#define LOT_HELD_FILE_MOST 693    /* the longest held file, in bytes */
 #define LOT_HANDLES_MOST 1000     /* the most handles of a list */
 #define LOT_TRIE_PROOF_MOST 8192  /* the longest trie proof, and every one of presence, in bytes */
 #define LOT_CLASH_LEAST 65        /* the least room of a clash's buffer, in bytes */
@@ -156,6 +167,15 @@ uint64_t lot_build_advancement(const uint8_t *store, size_t store_length, uint64
    is accepted. Refusals: 2, 4, 7, 9, 10, 11. Answer: the hops found good, with 9, 10 and 11 too. */
 uint64_t lot_check_advancement(uint8_t held[688], uint64_t n, const uint8_t digest[32],
                                const uint8_t *proof, size_t proof_length, uint64_t answer[3]);
+
+/* Writes a held state as a held file at the start of `out`; what lies after it stays. One state has one
+   file. Refusals: 2, 6. Answer: the file's length, 53 bytes and 32 for each 1 bit of the count. */
+uint64_t lot_held_write(const uint8_t held[688], uint8_t *out, size_t out_length, uint64_t answer[3]);
+
+/* Reads a held file: `held` becomes its state, and rows that are not in use become zero. A file that
+   reads gives itself back when written. At a count over 0 the digest and the rows are not judged.
+   Refusals: 18, 19, 20, 21, 22, 2, in this order. */
+uint64_t lot_held_read(const uint8_t *file, size_t file_length, uint8_t held[688]);
 
 /* The handle of a key. Refusals: 3. */
 uint64_t lot_handle(const uint8_t *key, size_t key_length, uint8_t handle[32]);

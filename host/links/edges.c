@@ -25,6 +25,7 @@ enum {
 static uint8_t entry[200], store[LOT_STORE_BYTES(COUNT + 1)], digest[LOT_DIGEST_BYTES];
 static uint8_t proof[352], changed[352], proof_2[288], advance[192];
 static uint8_t held_2[LOT_HELD_BYTES], held_5[LOT_HELD_BYTES];
+static uint8_t file_5[LOT_HELD_FILE_LEAST + 2 * LOT_DIGEST_BYTES]; /* 5 has two rows in use */
 
 /* The material of the trie, where the entry is a key: its handle and another with the last bit turned,
    both in one list, where it is present; and the other alone, where it is absent by 256 siblings. */
@@ -63,6 +64,8 @@ CALL(held_at, SLICE(0), FIRST, ARRAY(1))
 CALL(held_start, FIRST, ARRAY(0))
 CALL(build_advancement, SLICE(0), BOTH, SLICE(1), ANSWER(2))
 CALL(check_advancement, ARRAY(0), FIRST, ARRAY(1), SLICE(2), ANSWER(3))
+CALL(held_write, ARRAY(0), SLICE(1), ANSWER(2))
+CALL(held_read, SLICE(0), ARRAY(1))
 CALL(handle, SLICE(0), ARRAY(1))
 CALL(trie_root, SLICE(0), ARRAY(1))
 CALL(prove_presence, SLICE(0), SLICE(1), SLICE(2), ANSWER(3))
@@ -131,6 +134,9 @@ static const struct test tests[] = {
      {FIXED(held_2), FIXED(digest), IN(advance, 7), TOLD}},
     {"check advancement of 0 hops", call_check_advancement, {COUNT, 0}, DONE, 0,
      {FIXED(held_5), FIXED(digest), NOTHING, TOLD}},
+    {"held write", call_held_write, {0, 0}, DONE, sizeof file_5,
+     {FIXED(held_5), OUT(sizeof file_5, 6), TOLD}},
+    {"held read", call_held_read, {0, 0}, DONE, 0, {IN(file_5, 18), FIXED_OUT(LOT_HELD_BYTES)}},
     {"handle", call_handle, {0, 0}, DONE, 0, {IN(entry, 0), FIXED_OUT(32)}},
     {"trie root", call_trie_root, {0, 0}, DONE, 0, {IN(handles, 0), FIXED_OUT(32)}},
     {"prove presence", call_prove_presence, {0, 0}, DONE, sizeof presence,
@@ -293,6 +299,7 @@ static int prepare(void) {
     refused |= lot_build_advancement(store, sizeof store, 2, COUNT, advance, sizeof advance, answer);
     refused |= lot_held_at(store, sizeof store, 2, held_2);
     refused |= lot_held_at(store, sizeof store, COUNT, held_5);
+    refused |= lot_held_write(held_5, file_5, sizeof file_5, answer);
     memcpy(changed, proof, sizeof proof);
     changed[sizeof changed - 1] ^= 1; /* in the last component, which has 64 bytes */
     refused |= prepare_trie();

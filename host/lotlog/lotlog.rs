@@ -21,6 +21,10 @@ pub const RECORD_BYTES: usize = 65;
 pub const ELEMENTS_MOST: usize = 1_048_575;
 pub const PROOF_MOST: usize = 14_048;
 
+/// The least bytes of a held file, and the most.
+pub const HELD_FILE_LEAST: usize = 53;
+pub const HELD_FILE_MOST: usize = 693;
+
 /// The most handles of a list, the most bytes of a trie proof, and the least room of a clash's
 /// buffer.
 pub const HANDLES_MOST: usize = 1_000;
@@ -58,6 +62,11 @@ pub fn meaning(number: u64) -> &'static str {
         15 => "asked kind not true",
         16 => "trie proof length not that of its kind",
         17 => "root differs",
+        18 => "held file under 53 bytes",
+        19 => "held file mark wrong",
+        20 => "held file version wrong",
+        21 => "held file count over the limit",
+        22 => "held file length not that of its count",
         _ => "no number of documents 01 and 02",
     }
 }
@@ -156,6 +165,13 @@ mod raw {
             proof_length: usize,
             answer: *mut u64,
         ) -> u64;
+        pub fn lot_held_write(
+            held: *const u8,
+            out: *mut u8,
+            out_length: usize,
+            answer: *mut u64,
+        ) -> u64;
+        pub fn lot_held_read(file: *const u8, file_length: usize, held: *mut u8) -> u64;
         pub fn lot_handle(key: *const u8, key_length: usize, handle: *mut u8) -> u64;
         pub fn lot_trie_root(handles: *const u8, handles_length: usize, root: *mut u8) -> u64;
         pub fn lot_prove_presence(
@@ -379,6 +395,21 @@ pub fn check_advancement(held: &mut Held, n: u64, digest: &Digest, proof: &[u8])
             answer,
         )
     })
+}
+
+/// Writes a held state as a held file; answers its length. Refusals: 2, 6.
+#[inline]
+pub fn held_write(held: &Held, out: &mut [u8]) -> Answer {
+    answered(|answer| unsafe {
+        raw::lot_held_write(held.as_ptr(), out.as_mut_ptr(), out.len(), answer)
+    })
+}
+
+/// Reads a held file. Refusals: 18, 19, 20, 21, 22, 2, in this order.
+#[inline]
+#[must_use]
+pub fn held_read(file: &[u8], held: &mut Held) -> u64 {
+    unsafe { raw::lot_held_read(file.as_ptr(), file.len(), held.as_mut_ptr()) }
 }
 
 /// The handle of a key. Refusals: 3.

@@ -21,7 +21,7 @@ pub struct Held {
 }
 
 /// "Row l is in use exactly if bit l of n is 1".
-fn in_use(n: u64, row: usize) -> bool {
+pub fn in_use(n: u64, row: usize) -> bool {
     (n >> row) & 1 == 1
 }
 
@@ -50,7 +50,7 @@ pub fn held_of<H: Hash>(log: &Log, at: u64) -> Held {
 
 /// Refuses with 2: "held state over the limit, a free row not zero, or count 0 with a digest that
 /// is not T(0) of its log".
-fn in_order<H: Hash>(held: &Held) -> Answer<()> {
+pub fn in_order<H: Hash>(held: &Held) -> Answer<()> {
     let over = held.count > LIMIT;
     let free_not_zero = (0..ROWS).any(|row| !in_use(held.count, row) && held.rows[row] != [0; 32]);
     let wrong_start = held.count == 0 && held.digest != start_digest::<H>(held.log);

@@ -1,7 +1,7 @@
 //! "When the counter says no": the numbers of the table and what stands beside them.
 //!
 //! 1 to 13 are document 01's. "New refusals, here and later, take the next free numbers in the
-//! order named", says document 02, A1, and names 14 to 17.
+//! order named", says document 02, A1, and names 14 to 17; A4 names 18 to 22.
 
 /// A refused call: its number in the table, and the number returned beside it.
 ///
@@ -52,6 +52,16 @@ pub const KIND: u64 = 15;
 pub const SIBLINGS: u64 = 16;
 /// "root differs"
 pub const ROOT: u64 = 17;
+/// "under 53 bytes"
+pub const FILE_SHORT: u64 = 18;
+/// "wrong mark"
+pub const FILE_MARK: u64 = 19;
+/// "wrong version"
+pub const FILE_VERSION: u64 = 20;
+/// "count over the limit"
+pub const FILE_COUNT: u64 = 21;
+/// "wrong length"
+pub const FILE_LENGTH: u64 = 22;
 
 /// A refusal with 0 beside it.
 pub fn refuse<T>(number: u64) -> Answer<T> {

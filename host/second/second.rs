@@ -1,12 +1,13 @@
-//! The second program: documents 01 and 02 (A1) written down once more, from their text alone.
+//! The second program: documents 01 and 02 (A1, A2, A4) written down once more, from their text
+//! alone. A3 changes nothing that is seen.
 //!
 //! It shares no code with the proved crates and follows another plan: it parses a proof into its
 //! components before it looks at any, keeps paths and messages in vectors, forms a trie level by
 //! level from the leaves up, and answers with `Result`. The comparisons in `host/compare` hold
 //! every call of the proved library to it.
 //!
-//! Words in quotation marks are sentences of document 01, and in [`trie`] of document 02. Every
-//! call is generic over the hash, so that the stand-in can take the place of SHA-256.
+//! Words in quotation marks are sentences of document 01, and in [`trie`] and [`saved`] of document
+//! 02. Every call is generic over the hash, so that the stand-in can take the place of SHA-256.
 
 pub mod dispute;
 pub mod hash;
@@ -16,9 +17,12 @@ pub mod path;
 pub mod program;
 pub mod proof;
 pub mod refusal;
+pub mod saved;
 pub mod store;
 pub mod trie;
 
+#[cfg(test)]
+mod saved_tests;
 #[cfg(test)]
 mod tests;
 #[cfg(test)]

@@ -5,7 +5,7 @@ use std::panic;
 
 use compare::both::Both;
 use compare::faulty::{self, Faulty};
-use compare::{advance, hash, member, store, trie, whole, Scale};
+use compare::{advance, hash, member, saved, store, trie, whole, Scale};
 
 const SEED: u64 = 4;
 const CALLS: u64 = 20_000;
@@ -31,6 +31,7 @@ fn main() {
     store::run(&mut both, Scale::Small);
     member::run(&mut both, Scale::Small);
     advance::run(&mut both, Scale::Small);
+    saved::run(&mut both, Scale::Small);
     trie::run(&mut both, Scale::Small);
     whole::run(&mut both, SEED, CALLS);
     panic::set_hook(Box::new(|_| ()));
@@ -42,6 +43,15 @@ fn main() {
         member: CLEARS_PAST_THE_PROOF IGNORES_A_TAIL TAKES_ANY_ENTRY NO_HOPS_WITH_11
             NAMES_THE_SECOND_PROOF DIFFERING_NEAREST_I;
         advance: FORGETS_THE_TOP_ROW NEVER_CHECKS_ROWS KEEPS_A_REFUSED_DIGEST ADVANCES_ONLY_FROM_1;
+        saved: ROWS_HIGHEST_FIRST ALL_ROWS_WRITTEN ROW_BY_ITS_CONTENTS LAST_ROW_LEFT_OUT
+            COUNT_LITTLE_ENDIAN CLEARS_BEHIND_THE_FILE WRITES_ANY_STATE WRITES_OVER_THE_LIMIT
+            WRITES_ANY_LAST_ROW WRITES_ANY_START ROOM_BEFORE_THE_STATE LENGTH_BESIDE_6
+            WRITES_A_PART MARK_NOT_COMPARED LAST_OF_THE_MARK_NOT_COMPARED TAKES_VERSION_2
+            FIRST_OF_THE_VERSION_IGNORED COUNT_OF_32_BITS TAIL_OF_A_FILE_IGNORED
+            MISSING_ROWS_ARE_ZERO READS_ANY_START NEEDS_54_BYTES MARK_BEFORE_53_BYTES
+            VERSION_BEFORE_THE_MARK COUNT_BEFORE_THE_VERSION LIMIT_IS_OVER LENGTH_BEFORE_53_BYTES
+            NO_LIMIT_OF_THE_COUNT LENGTH_BEFORE_THE_COUNT START_BEFORE_THE_LENGTH
+            REFUSES_A_DIGEST_OF_ZEROS REFUSES_A_ROW_OF_ZEROS REFUSED_FILE_CLEARS KEEPS_FREE_ROWS;
         trie: HASHES_A_LONG_KEY TAKES_A_REPEATED_HANDLE SORTS_THE_LIST TAKES_1001_HANDLES
             TAKES_A_BROKEN_HANDLE ROOM_BEFORE_THE_KIND LIST_BEFORE_THE_KEY BUILDS_A_FALSE_ABSENCE
             SIBLINGS_FROM_THE_LEAF ABSENCE_ONE_TOO_LONG WRITES_WHAT_FITS LAST_BIT_FIRST
@@ -49,7 +59,7 @@ fn main() {
             ABSENCE_NEEDS_A_SIBLING PART_OF_A_SIBLING_IGNORED NAMES_THE_ABSENCE
             PROOFS_BEFORE_THE_BUFFERS;
         everything: PADDING_AT_55_BYTES CLOSES_TOO_EARLY IGNORES_A_TAIL NEVER_CHECKS_ROWS
-            TAKES_ANY_ROOT;
+            ROWS_HIGHEST_FIRST TAIL_OF_A_FILE_IGNORED TAKES_ANY_ROOT;
     };
     if !unnoticed.is_empty() {
         eprintln!("faults that were not noticed: {}", unnoticed.join(", "));
@@ -61,11 +71,11 @@ fn main() {
 /// The group `whole` in the shape of the others.
 mod everything {
     use super::*;
-    use compare::calls::{AdvanceCalls, HashCalls, MemberCalls, StoreCalls, TrieCalls};
+    use compare::calls::{AdvanceCalls, HashCalls, MemberCalls, SavedCalls, StoreCalls, TrieCalls};
 
     pub fn run<C>(both: &mut Both<C>, _: Scale)
     where
-        C: HashCalls + StoreCalls + MemberCalls + AdvanceCalls + TrieCalls,
+        C: HashCalls + StoreCalls + MemberCalls + AdvanceCalls + SavedCalls + TrieCalls,
     {
         whole::run(both, SEED, CALLS);
     }
