@@ -1,6 +1,6 @@
 -- Nothing is lost: the state that stands in a state's file is that state, and the file of the state that stands in a file is that file.
 use mathlib.Core.Path.{_≡_, refl, sym, ap, ap₂, _∙_}
-use mathlib.Core.Bool.{Bool, true, cond, _&&_, _||_, and-eq-true-iff}
+use mathlib.Core.Bool.{true, _||_, and-eq-true-iff}
 use mathlib.Core.List.{List, _++_}
 use Prim.Native.Nat.{ℕ, _+_, _^_, _≤_, _<_}
 use native.Mathlib.Omega.{arith}

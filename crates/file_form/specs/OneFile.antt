@@ -1,8 +1,8 @@
 -- THE THEOREMS OF REQUEST A4, for any hash and any version of the log, over the outcomes of the two calls: "One state has one file, and a file that reads
 -- gives itself back when written."
 use mathlib.Core.Path.{_≡_, refl, sym, ap, ap₂, _∙_}
-use mathlib.Core.Bool.{Bool, true, false, cond}
-use Prim.Native.Nat.{ℕ, _+_, _≤_}
+use mathlib.Core.Bool.{Bool, true, false}
+use Prim.Native.Nat.{ℕ, _≤_}
 use native.Mathlib.Omega.{arith}
 use lib.Dec.{ltb, lit≤}
 use lib.ListN.{length}

@@ -3,7 +3,7 @@ use mathlib.Core.Path.{_≡_, ap, ap₂, _∙_}
 use Prim.Native.Nat.{ℕ}
 use Rattle.lists.specs.Bytes.{Bytes}
 use Rattle.rules.specs.Held.{Held}
-use Rattle.rules.specs.Calls.{Answer, Written, written, Advanced, Finding, Disputed, disputed}
+use Rattle.rules.specs.Calls.{Answer, Written, written, HeldFound, heldFound, Advanced, Finding, Disputed, disputed}
 use Rattle.numbers.specs.declared.Said.{Said}
 use Rattle.numbers.specs.Saying.{answerOf, Says, says}
 use Rattle.wire.specs.Wire.{wireOf}
@@ -30,3 +30,8 @@ module _ {t : Told} {s : Said} {a : Answer} (tells : t ≡ answered (answerOf s)
 -- Telling what a dispute found tells its outcome, with what the call left in the buffers.
 pub tells-found : {t : Told} {f : Finding} {b1 b2 : Bytes} {o : Disputed} → t ≡ finding f → disputed f b1 b2 ≡ o → record { told = t; first = b1; second = b2 } ≡ shows o
 tells-found {b1 = b1} {b2} tells met = ap {B = Showed} (λ (x : Told). record { told = x; first = b1; second = b2 }) tells ∙ ap shows met
+
+-- Leaving the bytes of the state that a call found, unless its number is a refusal, leaves its outcome.
+pub leaves-held : (old : Bytes) {l : Left} {n m : ℕ} {h : Held} {f : HeldFound} → l ≡ leaves n (wireOf h) old → n ≡ m → heldFound m h ≡ f
+    → l ≡ leaves (f .number) (wireOf (f .held)) old
+leaves-held old {h = h} left told met = left ∙ ap (λ (k : ℕ). leaves k (wireOf h) old) told ∙ ap (λ (f : HeldFound). leaves (f .number) (wireOf (f .held)) old) met

@@ -1,7 +1,7 @@
 -- What the contracts of this crate come to, for the hash of this build. One outcome: two answers, and two outputs after a call, that meet a contract are the
 -- same. What is written reads back as the state itself; what was read is in order, and gives its file back when written. A state is `Sized`, as its types
 -- say: its numbers have 64 bits, its digest and its rows 32 bytes.
-use mathlib.Core.Path.{_≡_, refl, sym, ap, ap₂, _∙_}
+use mathlib.Core.Path.{_≡_, refl, sym, ap, _∙_}
 use mathlib.Core.Bool.{true, false}
 use mathlib.Core.List.{_++_}
 use Prim.Native.Nat.{ℕ, _≤_}
@@ -12,7 +12,7 @@ use Rattle.hash.specs.Hash.{hashOf}
 use Rattle.rules.specs.Numbers.{v1}
 use Rattle.rules.specs.Refusals.{done}
 use Rattle.rules.specs.Held.{Sized, inOrder}
-use Rattle.rules.specs.Calls.{HeldFound, heldFound, written, gives, over, Advanced, advanceCall}
+use Rattle.rules.specs.Calls.{HeldFound, heldFound, written, gives, over, advanceCall}
 use Rattle.rules.specs.Calls as calls
 use Rattle.rules.specs.OneOutcome.{One, one-outcome}
 use Rattle.held.specs.declared.Held.{Held}

@@ -1,6 +1,6 @@
 -- `saved::file_len` meets its contract: of 64 bits no more than 64 are 1.
 use mathlib.Core.Path.{refl}
-use Prim.Native.Nat.{ℕ, _≤_}
+use Prim.Native.Nat.{_≤_}
 use native.Mathlib.Omega.{arith}
 use lib.Count.{ones, ones-le}
 use Rattle.saved.proofs.file_len.Statement.{statement}

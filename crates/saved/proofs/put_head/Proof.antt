@@ -1,6 +1,5 @@
 -- `saved::put_head` meets its contract: its four writes stand one behind the other.
 use mathlib.Core.Path.{_≡_}
-use Prim.Native.Nat.{_+_, _≤_}
 use native.Mathlib.Omega.{arith}
 use lib.ListN.{length}
 use borrow.Author.Needs.{needs}

@@ -1,11 +1,9 @@
 -- `saved::read_rows` meets its contract: after l turns the first l rows are those that the file gives.
-use mathlib.Core.Path.{_≡_, refl, sym, ap, _∙_, subst}
-use mathlib.Core.List.{List}
-use Prim.Native.Nat.{ℕ, _+_, _*_, _/_, _%_, _-_}
+use mathlib.Core.Path.{refl}
+use Prim.Native.Nat.{_-_}
 use native.Mathlib.Omega.{arith}
 use borrow.Author.Needs.{needs}
 use denote.Ref.{now}
-use Rattle.lists.specs.Bytes.{Bytes}
 use Rattle.rules.specs.Numbers.{v1}
 use Rattle.held.specs.Holding.{bytesOf, rowsOf}
 use Rattle.held.proofs.Turns.{rows-set}

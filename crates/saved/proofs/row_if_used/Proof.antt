@@ -1,12 +1,12 @@
 -- `saved::row_if_used` meets its contract: the two cases of the definition, by the lowest bit of q.
-use mathlib.Core.Path.{_≡_, sym, ap, _∙_}
+use mathlib.Core.Path.{sym, ap, _∙_}
 use mathlib.Core.Bool.{Bool, cond}
 use Prim.Native.Nat.{_%_}
 use lib.ListN.{take, drop}
 use borrow.Author.Tests.{eq-eqb, ne-eqb}
 use borrow.Author.Needs.{needs}
 use denote.Ref.{now}
-use Rattle.lists.specs.Bytes.{Bytes, zeros}
+use Rattle.lists.specs.Bytes.{zeros}
 use Rattle.saved.proofs.row_if_used.Statement.{statement}
 use Rattle.saved.proofs.row_if_used.Tie as tie
 
