@@ -1,1 +1,1 @@
-pub mod Turns  -- one turn of each loop over the rows
+pub mod Turns  -- one turn of each loop over the rows, and the whole file

@@ -1,4 +1,5 @@
--- One turn of each loop over the rows, at row l, and the loop's end. q is the count in steps of row l's level: its lowest bit tells whether that row is in use.
+-- One turn of each loop over the rows, at row l, and the loop's end; and head and rows as the whole file. q is the count in steps of row l's level: its lowest bit tells
+-- whether that row is in use.
 use mathlib.Core.Path.{_≡_, refl, sym, ap, ap₂, _∙_}
 use mathlib.Core.Bool.{cond}
 use mathlib.Core.List.{List, [], _∷_, _++_, append-nil}

@@ -56,7 +56,8 @@ module _ (h : Held) (out o : Bytes) (s : Saved) (met : outcome (s, o) ≡ writeC
 
 -- ---- what is written reads back; o is the output after the call, and r what is read from the bytes that were written
 
-module _ (h : Held) (s : Sized v1 (holds h)) (out o : Bytes) (size : ℕ) (met : outcome (Written size, o) ≡ writeCall hashOf v1 (holds h) out) (r : FileRead) (read : fileTold r ≡ readCall hashOf v1 (take size o)) where
+module _ (h : Held) (s : Sized v1 (holds h)) (out o : Bytes) (size : ℕ) (met : outcome (Written size, o) ≡ writeCall hashOf v1 (holds h) out)
+    (r : FileRead) (read : fileTold r ≡ readCall hashOf v1 (take size o)) where
   wrote : Writes hashOf v1 (holds h) out
   wrote = writes hashOf v1 (holds h) out (sym (ap (λ (w : calls.Written). w .answer .number) met))
 

@@ -38,7 +38,9 @@ put-requires-3 c κs = search needs
 slice-aggregate-put-4 : tie.Need-slice-aggregate-put-4
 slice-aggregate-put-4 c = search needs
 
-whole : (c : tie.After-digest2) → length (c .before .before .before .before .before .before .before .before .before .before .before .before .before .before .before .before .before .before .before .before .before .args .h .digest .bytes) ≡ 32
+whole : (c : tie.After-digest2) →
+    let a = c .before .before .before .before .before .before .before .before .before .before .before .before .before .before .before .before .before .before .before .before .before .args in
+    length (a .h .digest .bytes) ≡ 32
 whole c = search needs
 
 put-requires-4 : tie.Need-put-requires-4
