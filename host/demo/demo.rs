@@ -9,8 +9,8 @@
 use std::path::PathBuf;
 use std::{env, fs, process};
 
-use lotlog::{meaning, store_bytes, Answer, Digest, Held, Side};
-use lotlog::{HELD_FILE_MOST, TRIE_PROOF_MOST, WHOLE};
+use lotlog::file::{load_held, save_held, Error, Refusal};
+use lotlog::{meaning, store_bytes, Answer, Digest, Held, Side, TRIE_PROOF_MOST, WHOLE};
 
 const LOG: u64 = 7;
 const ROOM: usize = 16;
@@ -153,20 +153,28 @@ fn advance(files: &Files, n: u64, hops: u64) {
     files.write("held.after", &held);
 }
 
+/// The number of a call on a file: 0, or that of the library's refusal.
+fn number_of<T>(result: &Result<T, Error>) -> u64 {
+    match result {
+        Ok(_) => 0,
+        Err(Error::Refused(Refusal(number))) => *number,
+        Err(Error::System(error)) => panic!("{}", error),
+    }
+}
+
 /// The practice saves what it holds to a file, which has the length that is given. Then its terminal
 /// is gone with all that was on it, and a new one reads the file.
 fn replace_terminal(files: &Files, length: u64) {
-    let mut out = [0; HELD_FILE_MOST];
-    let answer = lotlog::held_write(&files.array("held.after"), &mut out);
-    let length = tell_named("save what is held", answer, [0, length], "length");
-    files.write("held.file", &out[..length as usize]);
+    let file = files.0.join("held.file");
+    let number = number_of(&save_held(&file, &files.array("held.after")));
+    let beside = [fs::metadata(&file).map_or(0, |file| file.len()), 0, 0];
+    tell_named("save what is held", Answer { number, beside }, [0, length], "length");
     files.remove("held.before");
     files.remove("held.after");
 
-    let mut held = [0; 688];
-    let number = lotlog::held_read(&files.read("held.file"), &mut held);
-    tell_done("read what was saved", number, "");
-    files.write("held.after", &held);
+    let held = load_held(&file);
+    tell_done("read what was saved", number_of(&held), "");
+    files.write("held.after", &held.expect("a state"));
 }
 
 /// The digest that a practice goes by: the one in its held state.

@@ -1,8 +1,10 @@
 //! A store in a file, call by call: files FOLDER. Every answer, every error and every byte of the file
 //! after it; what is flushed when; a flush or a reservation that fails; two writers; readers beside a
 //! writer that goes on appending and growing; and ends in the middle of making and growing a store.
+//! And a held state in a file, which `held.rs` looks at.
 
 mod expected;
+mod held;
 #[allow(dead_code)] // the program that ends processes uses the rest
 mod process;
 mod system;
@@ -229,7 +231,7 @@ fn failing_growth(tests: &mut Tests) {
         tests.fails("it appends no more", writer.append(b"x"), ErrorKind::Other);
         tests.fails("it grows no more", writer.grow(1), ErrorKind::Other);
         tests.holds("the log is as it was", &path, &with_room(room, 2));
-        tests.look("nothing is left beside it", !beside(&path).exists());
+        tests.look("nothing is left beside it", !beside(&path, ".growing").exists());
         drop(writer);
         let mut writer = Writer::open(&path).expect("the store");
         tests.look("then it grows", writer.grow(1).is_ok());
@@ -238,10 +240,10 @@ fn failing_growth(tests: &mut Tests) {
     }
 }
 
-/// Where a store is grown.
-fn beside(path: &Path) -> PathBuf {
+/// Where a store is grown, or a held state saved.
+fn beside(path: &Path, suffix: &str) -> PathBuf {
     let mut name = path.to_path_buf().into_os_string();
-    name.push(".growing");
+    name.push(suffix);
     name.into()
 }
 
@@ -250,10 +252,10 @@ fn beside(path: &Path) -> PathBuf {
 fn keeping_its_place(tests: &mut Tests) {
     let (path, mut writer, _) = tests.store("rights", 1, 1);
     fs::set_permissions(&path, fs::Permissions::from_mode(0o640)).expect("its rights");
-    fs::write(beside(&path), [0xEE; 5_000]).expect("a file");
+    fs::write(beside(&path, ".growing"), [0xEE; 5_000]).expect("a file");
     tests.look("room is added", writer.grow(2).is_ok());
     tests.look("its rights", fs::metadata(&path).expect("the file").mode() & 0o777 == 0o640);
-    tests.look("nothing is left beside it", !beside(&path).exists());
+    tests.look("nothing is left beside it", !beside(&path, ".growing").exists());
     tests.fails("a second writer", Writer::open(&path), ErrorKind::WouldBlock);
     tests.look("the next append", writer.append(&entry(2)).ok() == Some(2));
     drop(writer);
@@ -367,13 +369,13 @@ fn ended_in_growth(tests: &mut Tests) -> u64 {
             let mut writer = Writer::open(&path).expect("the store");
             while writer.grow(1).is_ok() {}
         });
-        unfinished += u64::from(beside(&path).exists());
+        unfinished += u64::from(beside(&path, ".growing").exists());
         let store = fs::read(&path).expect("the file");
         let room = (store.len() - HEADER_BYTES) / RECORD_BYTES;
         tests.look("a whole store", store == with_room(room, 2));
         let mut writer = Writer::open(&path).expect("the store");
         tests.look("it can be grown", writer.grow(1).is_ok());
-        tests.look("nothing is left beside it", !beside(&path).exists());
+        tests.look("nothing is left beside it", !beside(&path, ".growing").exists());
         tests.holds("the grown store", &path, &with_room(room + 1, 2));
     }
     tests.look("some ended in the middle", unfinished > 0);
@@ -441,4 +443,5 @@ fn main() {
          file, of {} ends while one grows {} left an unfinished one",
         tests.looked_at, ENDS, made, ENDS, unfinished
     );
+    held::look(&mut Tests { folder: tests.folder, looked_at: 0 });
 }

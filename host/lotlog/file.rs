@@ -1,5 +1,6 @@
-//! A store in a file: made, opened, appended to durably, and grown. docs/DURABILITY.md says what
-//! reaches the disk when, and why.
+//! A store in a file: made, opened, appended to durably, and grown; and what a practice holds in a
+//! file: saved and read ([`save_held`], [`load_held`]). docs/DURABILITY.md says what reaches the disk
+//! when, and why.
 //!
 //! One process at a time has the store open for writing, as a [`Writer`]; any number read beside it,
 //! each through a [`Reader`], which gives the store as it stood between two appends. Both go by
@@ -17,9 +18,12 @@ use std::path::{Path, PathBuf};
 
 use super::{store_bytes, Answer, ELEMENTS_MOST, HEADER_BYTES, RECORD_BYTES, WHOLE};
 
+mod held;
 mod lock;
 mod map;
 mod place;
+
+pub use held::{load_held, save_held};
 
 use lock::{Lock, GATE, SEAT};
 use map::Map;
@@ -27,7 +31,8 @@ use map::Map;
 /// The stop of an append that stores d and T and leaves the record open.
 const BODY: u64 = WHOLE - 1;
 
-/// A refusal of the library: document 01's number, which is not 0. The store is as it was.
+/// A refusal of the library: the number of document 01 or 02, which is not 0. The store, or the file of
+/// a held state, is as it was.
 #[derive(Debug, Clone, Copy, PartialEq, Eq)]
 pub struct Refusal(pub u64);
 
@@ -156,7 +161,7 @@ impl Writer {
     #[inline]
     pub fn open(path: &Path) -> Result<Writer, Error> {
         let path = fs::canonicalize(path)?;
-        let file = seated(&path)?;
+        let file = seated(&path, OpenOptions::new().read(true).write(true))?;
         // a writer that was killed may have closed a record that is not on the disk yet, or named the
         // file: no record behind it may get there first, nor a record in a file without its name
         file.sync_all()?;
@@ -202,7 +207,7 @@ impl Writer {
     /// Puts a longer file in the place of the store's.
     #[inline]
     fn moved(&self, whole: usize, more: usize) -> Result<(File, Map), Error> {
-        let next = place::next_to(&self.path);
+        let next = place::next_to(&self.path, ".growing");
         let made = self.longer(&next, whole, more).and_then(|made| {
             fs::rename(&next, &self.path)?;
             Ok(made)
@@ -245,11 +250,12 @@ impl Writer {
     }
 }
 
-/// Opens a store's file and takes the writer's lock on it. Where a writer before has grown the store
-/// in between, its name stands for another file by now: then for that one.
-fn seated(path: &Path) -> io::Result<File> {
+/// Opens a file and takes the writer's lock on it. Where a writer before has moved it in between, a
+/// store that was grown or a state that was saved, its name stands for another file by now, or for
+/// none: then it is opened anew.
+fn seated(path: &Path, how: &OpenOptions) -> io::Result<File> {
     loop {
-        let file = OpenOptions::new().read(true).write(true).open(path)?;
+        let file = how.open(path)?;
         Lock::try_alone(&file, SEAT)?.keep();
         if place::is_at(&file, path)? {
             return Ok(file);

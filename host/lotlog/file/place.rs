@@ -12,16 +12,20 @@ extern "C" {
     fn fchown(file: c_int, owner: u32, group: u32) -> c_int;
 }
 
-/// Whether this file, and not another, is the one that the path names.
+/// Whether this file, and not another or none, is the one that the path names.
 pub fn is_at(file: &File, path: &Path) -> io::Result<bool> {
-    let [ours, named] = [file.metadata()?, fs::metadata(path)?];
+    let named = match fs::metadata(path) {
+        Err(error) if error.kind() == io::ErrorKind::NotFound => return Ok(false),
+        named => named?,
+    };
+    let ours = file.metadata()?;
     Ok((ours.dev(), ours.ino()) == (named.dev(), named.ino()))
 }
 
-/// The name of the file that is to take the place of one: the same, with `.growing` behind it.
-pub fn next_to(path: &Path) -> PathBuf {
+/// The name of the file that is to take the place of one: the same, with the suffix behind it.
+pub fn next_to(path: &Path, suffix: &str) -> PathBuf {
     let mut name = path.as_os_str().to_os_string();
-    name.push(".growing");
+    name.push(suffix);
     name.into()
 }
 
