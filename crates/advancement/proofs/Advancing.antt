@@ -1,7 +1,7 @@
 -- The walk of an advancement, hop by hop: where it stands, what a good hop makes of it, and what ends it.
 use mathlib.Core.Path.{_≡_, refl, sym, ap, ap₂, _∙_}
 use mathlib.Core.Logic.{_⊎_, inl, inr}
-use mathlib.Core.Bool.{Bool, true, false}
+use mathlib.Core.Bool.{Bool, true, false, cond}
 use mathlib.Core.List.{List}
 use Prim.Native.Nat.{ℕ, suc, _+_, _-_, _/_, _^_, _≤_, _<_}
 use native.Mathlib.Nat.{zero-add}
@@ -17,14 +17,14 @@ use Rattle.rules.specs.Paths.{level, hops, pathAfter}
 use Rattle.rules.specs.Messages.{size, total, row, part}
 use Rattle.rules.specs.Refusals.{rowDiffers, linkDiffers, digestDiffers}
 use Rattle.rules.specs.Held.{Held}
-use Rattle.rules.specs.Checking.{Verdict, accepted, refused, must, hopped, advanceWalk}
+use Rattle.rules.specs.Checking.{Verdict, place, accepted, refused, mustAt, must, agrees, offRow, hopped, advanceWalk}
 use Rattle.rules.specs.Calls.{advanceAnswer}
 use Rattle.rules.specs.Hops.{level-hop, level-below, hops-step}
 use Rattle.rules.specs.Bounds.{total-first, total-after-step}
 use Rattle.rules.specs.Walking.{advance-walk-end}
 use Rattle.held.specs.declared.Rows.{Rows}
 use Rattle.held.specs.declared.Rows.the-variants.{Agree, Differ}
-use Rattle.held.specs.Rows.{rowsSay, agree, agrees-said}
+use Rattle.held.specs.Rows.{rowsSay, said-is}
 use Rattle.advancement.specs.declared.Hop.{Hop}
 use Rattle.advancement.specs.declared.Hop.the-variants.{Good, Row, Link}
 use Rattle.messages.specs.Parts.{part-length}
@@ -34,8 +34,8 @@ use Rattle.advancement.proofs.Hop.{the-type}
 -- what a hop's verdict makes of the walk that goes on from it, with k hops good before it
 judged : Hop → ℕ → Verdict (ℕ × Held) → Verdict (ℕ × Held)
 judged Good k w = w
-judged (Row j c) k w = refused rowDiffers k
-judged (Link j l) k w = refused linkDiffers k
+judged (Row j c) k w = refused rowDiffers k (place j c)
+judged (Link j l) k w = refused linkDiffers k (place j l)
 
 -- where the walk to n through p stands: at h, with the next component at o and k hops good; h₀ is where it began
 pub record Stands (n : ℕ) (p D : Bytes) (h₀ h : Held) (o k : ℕ) : Type 0 where
@@ -61,7 +61,7 @@ next-hop : (n : ℕ) (p D : Bytes) (h : Held) (o k : ℕ) → h .count < n → a
 unfolding advanceWalk hopOf judged
 next-hop n p D h o k b =
     ap (λ (ls : List ℕ). advanceWalk hashOf v1 h ls p o D k) (hops-step (h .count) n b)
-    ∙ rw (agrees-said (drop l (h .rows)) l (h .count / 2 ^ l) x) (go (rowsSay l (h .count / 2 ^ l) (drop l (h .rows)) x) (same (row v1 x (suc l)) (h .digest)))
+    ∙ rw (said-is (drop l (h .rows)) l (h .count / 2 ^ l) x) (go (agrees v1 l (h .count / 2 ^ l) (drop l (h .rows)) x) (same (row v1 x (suc l)) (h .digest)))
   where
     l : ℕ
     l = level (h .count) n
@@ -72,10 +72,15 @@ next-hop n p D h o k b =
     rest : Held → Verdict (ℕ × Held)
     rest g = advanceWalk hashOf v1 g (hops (toward h n) n) p (o + size v1 (toward h n)) D (suc k)
 
-    go : (r : Rows) (t : Bool) → must (agree r) rowDiffers k (must t linkDiffers k (rest (hopped hashOf v1 h l p o))) ≡ judged (hopBy h l x r t .verdict) k (rest (hopBy h l x r t .state))
-    go Agree true = refl
-    go Agree false = refl
-    go (Differ c) t = refl
+    -- the row that the rules name
+    off : ℕ
+    off = offRow v1 l (drop l (h .rows)) x
+
+    go : (b t : Bool) → mustAt (place (toward h n) off) b rowDiffers k (mustAt (place (toward h n) l) t linkDiffers k (rest (hopped hashOf v1 h l p o)))
+        ≡ judged (hopBy h l x (cond b Agree (Differ off)) t .verdict) k (rest (hopBy h l x (cond b Agree (Differ off)) t .state))
+    go true true = refl
+    go true false = refl
+    go false t = refl
 
 -- a good one ends there
 good-count : (h : Held) (l : ℕ) (x : Bytes) → hopOf h l x .verdict ≡ Good → hopOf h l x .state .count ≡ h .count + 2 ^ l

@@ -16,7 +16,7 @@ use Rattle.rules.specs.Paths.{hops, pathAfter}
 use Rattle.rules.specs.Messages.{startMsg, size, total, row, part, advancementProof, Lawful}
 use Rattle.rules.specs.Refusals.{stateBroken, noSuchNumber, wrongLength, rowDiffers, linkDiffers, digestDiffers}
 use Rattle.rules.specs.Held as rules
-use Rattle.rules.specs.Checking.{Verdict, accepted, refused, must, upward, agrees, hopped, advanceWalk, advance}
+use Rattle.rules.specs.Checking.{Place, place, nowhere, Verdict, accepted, refused, mustAt, upward, agrees, offRow, hopped, advanceWalk, advance}
 use Rattle.rules.specs.Calls as calls
 use Rattle.rules.specs.Acceptance.{advance-hops, advance-in-order}
 use Rattle.rules.specs.HonestAdvance.{honest-advance}
@@ -40,27 +40,27 @@ advanced-one h n D p = one-outcome outcomeOf answerFrom answer-back (calls.advan
 
 numbered : {A : Type 0} → Verdict A → Type 0
 numbered (accepted x) = Unit {0}
-numbered (refused num k) = 1 ≤ num
+numbered (refused num k w) = 1 ≤ num
 
-must-numbered : {A : Type 0} (b : Bool) (num k : ℕ) (x : Verdict A) → 1 ≤ num → numbered x → numbered (must b num k x)
+must-numbered : {A : Type 0} (w : Place) (b : Bool) (num k : ℕ) (x : Verdict A) → 1 ≤ num → numbered x → numbered (mustAt w b num k x)
 unfolding numbered
-must-numbered true num k x h g = g
-must-numbered false num k x h g = h
+must-numbered w true num k x h g = g
+must-numbered w false num k x h g = h
 
 walk-numbered : (ls : List ℕ) (h : rules.Held) (p : Bytes) (o : ℕ) (D : Bytes) (k : ℕ) → numbered (advanceWalk hashOf v1 h ls p o D k)
 unfolding advanceWalk numbered
-walk-numbered [] h p o D k = must-numbered (same (h .digest) D) digestDiffers k _ (lit≤ tt) tt
+walk-numbered [] h p o D k = must-numbered nowhere (same (h .digest) D) digestDiffers k _ (lit≤ tt) tt
 walk-numbered (l ∷ ls) h p o D k =
     let to = h .count + 2 ^ l in
-    must-numbered (agrees v1 l (h .count / 2 ^ l) (drop l (h .rows)) (part v1 p o to)) rowDiffers k _ (lit≤ tt)
-    (must-numbered (same (row v1 (part v1 p o to) (suc l)) (h .digest)) linkDiffers k _ (lit≤ tt) (walk-numbered ls (hopped hashOf v1 h l p o) p (o + size v1 to) D (suc k)))
+    must-numbered (place to (offRow v1 l (drop l (h .rows)) (part v1 p o to))) (agrees v1 l (h .count / 2 ^ l) (drop l (h .rows)) (part v1 p o to)) rowDiffers k _ (lit≤ tt)
+    (must-numbered (place to l) (same (row v1 (part v1 p o to) (suc l)) (h .digest)) linkDiffers k _ (lit≤ tt) (walk-numbered ls (hopped hashOf v1 h l p o) p (o + size v1 to) D (suc k)))
 
 advance-numbered : (h : rules.Held) (n : ℕ) (D p : Bytes) → numbered (advance hashOf v1 h n D p)
 unfolding advance
 advance-numbered h n D p =
-    must-numbered (rules.inOrder hashOf v1 h) stateBroken 0 _ (lit≤ tt)
-    (must-numbered (upward v1 (h .count) n) noSuchNumber 0 _ (lit≤ tt)
-    (must-numbered (eqb (length p) (total v1 (pathAfter (h .count) n))) wrongLength 0 _ (lit≤ tt) (walk-numbered (hops (h .count) n) h p 0 D 0)))
+    must-numbered nowhere (rules.inOrder hashOf v1 h) stateBroken 0 _ (lit≤ tt)
+    (must-numbered nowhere (upward v1 (h .count) n) noSuchNumber 0 _ (lit≤ tt)
+    (must-numbered nowhere (eqb (length p) (total v1 (pathAfter (h .count) n))) wrongLength 0 _ (lit≤ tt) (walk-numbered (hops (h .count) n) h p 0 D 0)))
 
 -- ---- refused and accepted
 
@@ -75,7 +75,7 @@ module _ (h : Held) (n : Length) (D : Digest) (p : Bytes) (r : Advanced) (e : An
     where
       go : (w : Verdict (ℕ × rules.Held)) → advance hashOf v1 (holds h) (n .0) (D .bytes) p ≡ w → r .held ≡ h
       go (accepted m) f = absurd (bad (m .0) (verdict-one (r .verdict) (Accepted (m .0)) (ap (λ (o : calls.Advanced). o .answer) (told (accepted m) f))))
-      go (refused num k) f = held-one (holds h) (r .held) h (ap (λ (o : calls.Advanced). o .held) (told (refused num k) f)) refl
+      go (refused num k w) f = held-one (holds h) (r .held) h (ap (λ (o : calls.Advanced). o .held) (told (refused num k w) f)) refl
 
   module _ (k : ℕ) (a : r .verdict ≡ Accepted k) where
     -- the rules accept what the code accepts
@@ -88,8 +88,8 @@ module _ (h : Held) (n : Length) (D : Digest) (p : Bytes) (r : Advanced) (e : An
             let o = told (accepted m) f in
             let hops : m .0 ≡ k = ap (λ (x : calls.Advanced). x .answer .value) (sym o) ∙ ap (λ (v : Advance). answerOf v .value) a in
             ap₂ (λ (x : ℕ) (y : rules.Held). accepted (x, y)) hops (ap (λ (x : calls.Advanced). x .held) (sym o))
-        go (refused num j) f g =
-            let z : num ≡ 0 = ap (λ (x : calls.Advanced). x .answer .number) (sym (told (refused num j) f)) ∙ ap (λ (v : Advance). answerOf v .number) a in
+        go (refused num j w) f g =
+            let z : num ≡ 0 = ap (λ (x : calls.Advanced). x .answer .number) (sym (told (refused num j w) f)) ∙ ap (λ (v : Advance). answerOf v .number) a in
             absurd (omega arith)
 
     -- "the number of hops found good, which equals the path's hops when accepted"

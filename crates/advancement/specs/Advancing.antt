@@ -10,7 +10,7 @@ use Rattle.rules.specs.Numbers.{v1}
 use Rattle.rules.specs.Messages.{elementMsg, size, row}
 use Rattle.rules.specs.Refusals.{stateBroken, noSuchNumber, wrongLength, rowDiffers, linkDiffers, digestDiffers}
 use Rattle.rules.specs.Held as rules
-use Rattle.rules.specs.Checking.{rowsAfter}
+use Rattle.rules.specs.Checking.{place, rowsAfter}
 use Rattle.rules.specs.Calls as calls
 use Rattle.held.specs.declared.Rows.{Rows}
 use Rattle.held.specs.declared.Rows.the-variants.{Agree, Differ}
@@ -23,16 +23,16 @@ use Rattle.advancement.specs.declared.Hop.{Hop}
 use Rattle.advancement.specs.declared.Hop.the-variants.{Good, Row, Link}
 use Rattle.advancement.specs.declared.Hopped.{Hopped}
 
--- ---- the outcome in 01's terms
+-- ---- the outcome in 01's terms, with 02's place (A5)
 
 abbrev pub answerOf : Advance → calls.Answer
 answerOf (Accepted hops) = calls.gives hops
 answerOf StateBroken = calls.refuses stateBroken
 answerOf NoSuchLength = calls.refuses noSuchNumber
 answerOf WrongLength = calls.refuses wrongLength
-answerOf (RowDiffers hops) = record { number = rowDiffers; value = hops }
-answerOf (LinkDiffers hops) = record { number = linkDiffers; value = hops }
-answerOf (DigestDiffers hops) = record { number = digestDiffers; value = hops }
+answerOf (RowDiffers hops element row) = record { number = rowDiffers; value = hops; place = place element row }
+answerOf (LinkDiffers hops element level) = record { number = linkDiffers; value = hops; place = place element level }
+answerOf (DigestDiffers hops) = calls.refusesWith digestDiffers hops
 
 abbrev pub outcomeOf : Advanced → calls.Advanced
 outcomeOf r = record { answer = answerOf (r .verdict); held = holds (r .held) }
@@ -43,8 +43,8 @@ verdictFrom a =
     cond (eqb (a .number) stateBroken) StateBroken
     (cond (eqb (a .number) noSuchNumber) NoSuchLength
     (cond (eqb (a .number) wrongLength) WrongLength
-    (cond (eqb (a .number) rowDiffers) (RowDiffers (a .value))
-    (cond (eqb (a .number) linkDiffers) (LinkDiffers (a .value))
+    (cond (eqb (a .number) rowDiffers) (RowDiffers (a .value) (a .place .element) (a .place .level))
+    (cond (eqb (a .number) linkDiffers) (LinkDiffers (a .value) (a .place .element) (a .place .level))
     (cond (eqb (a .number) digestDiffers) (DigestDiffers (a .value)) (Accepted (a .value)))))))
 
 pub answerFrom : calls.Advanced → Advanced
@@ -56,8 +56,8 @@ verdict-back (Accepted hops) = refl
 verdict-back StateBroken = refl
 verdict-back NoSuchLength = refl
 verdict-back WrongLength = refl
-verdict-back (RowDiffers hops) = refl
-verdict-back (LinkDiffers hops) = refl
+verdict-back (RowDiffers hops element row) = refl
+verdict-back (LinkDiffers hops element level) = refl
 verdict-back (DigestDiffers hops) = refl
 
 -- two verdicts with one answer are one
@@ -107,5 +107,5 @@ module _ (h : rules.Held) (l : ℕ) (x : Bytes) where
 -- what a hop's verdict says of the check, with k hops good before it
 abbrev pub verdictBy : Hop → ℕ → Advance
 verdictBy Good k = Accepted k
-verdictBy (Row j c) k = RowDiffers k
-verdictBy (Link j l) k = LinkDiffers k
+verdictBy (Row j c) k = RowDiffers k j c
+verdictBy (Link j l) k = LinkDiffers k j l

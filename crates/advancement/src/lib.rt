@@ -19,14 +19,15 @@ use path::Length;
 use path::Position;
 use path::Reach;
 
-// What the check finds; `hops` are the hops found good.
+// What the check finds; `hops` are the hops found good. `element` is the element reached where a row or a link differs, with the row, the lowest that
+// does, or the level hopped.
 pub enum Advance {
     Accepted { hops: u64 },
     StateBroken,
     NoSuchLength,
     WrongLength,
-    RowDiffers { hops: u64 },
-    LinkDiffers { hops: u64 },
+    RowDiffers { hops: u64, element: u64, row: u64 },
+    LinkDiffers { hops: u64, element: u64, level: u64 },
     DigestDiffers { hops: u64 },
 }
 
@@ -92,11 +93,16 @@ fn verdict_by(v: Hop, hops: u64) -> Advance
 {
     match v {
         Hop::Good => Advance::Accepted { hops: hops },
-        Hop::Row { element: _, row: _ } => Advance::RowDiffers { hops: hops },
-        Hop::Link {
-            element: _,
-            level: _,
-        } => Advance::LinkDiffers { hops: hops },
+        Hop::Row { element, row } => Advance::RowDiffers {
+            hops: hops,
+            element: element,
+            row: row,
+        },
+        Hop::Link { element, level } => Advance::LinkDiffers {
+            hops: hops,
+            element: element,
+            level: level,
+        },
     }
 }
 

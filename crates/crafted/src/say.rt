@@ -17,6 +17,12 @@ fn refused(num: u64, hops: u64) {
     number(b" ", hops);
 }
 
+fn broke(hops: u64, element: u64, level: u64) {
+    refused(10, hops);
+    number(b" at ", element);
+    number(b" ", level);
+}
+
 pub(crate) fn verdict(v: Verdict) {
     match v {
         Verdict::Accepted { hops } => number(b"accepted ", hops),
@@ -24,7 +30,11 @@ pub(crate) fn verdict(v: Verdict) {
         Verdict::NoSuchElement => refused(4, 0),
         Verdict::WrongLength => refused(7, 0),
         Verdict::OtherEntry => refused(8, 0),
-        Verdict::LinkDiffers { hops } => refused(10, hops),
+        Verdict::LinkDiffers {
+            hops,
+            element,
+            level,
+        } => broke(hops, element, level),
         Verdict::DigestDiffers { hops } => refused(11, hops),
     }
 }

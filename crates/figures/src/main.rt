@@ -58,7 +58,11 @@ fn number_of(v: Verdict) -> u64 {
         Verdict::NoSuchElement => 4,
         Verdict::WrongLength => 7,
         Verdict::OtherEntry => 8,
-        Verdict::LinkDiffers { hops: _ } => 10,
+        Verdict::LinkDiffers {
+            hops: _,
+            element: _,
+            level: _,
+        } => 10,
         Verdict::DigestDiffers { hops: _ } => 11,
     }
 }

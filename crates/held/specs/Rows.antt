@@ -7,7 +7,7 @@ use Rattle.lists.specs.Bytes.{Bytes, same}
 use Rattle.rules.specs.Numbers.{v1}
 use Rattle.rules.specs.Messages.{row}
 use Rattle.rules.specs.Held.{odd}
-use Rattle.rules.specs.Checking.{agrees}
+use Rattle.rules.specs.Checking.{agrees, offRow}
 use Rattle.held.specs.declared.Rows.{Rows}
 use Rattle.held.specs.declared.Rows.the-variants.{Agree, Differ}
 
@@ -16,18 +16,15 @@ unfoldable pub rowsSay : ℕ → ℕ → List Bytes → Bytes → Rows
 rowsSay c q [] x = Agree
 rowsSay c q (r ∷ rs) x = cond (odd q) (cond (same r (row v1 x (suc (suc c)))) (rowsSay (suc c) (q / 2) rs x) (Differ c)) Agree
 
-abbrev pub agree : Rows → Bool
-agree Agree = true
-agree (Differ c) = false
-
--- They agree exactly if the rules say so.
-pub agrees-said : (rs : List Bytes) (c q : ℕ) (x : Bytes) → agrees v1 c q rs x ≡ agree (rowsSay c q rs x)
-unfolding agrees rowsSay
-agrees-said [] c q x = refl
-agrees-said (r ∷ rs) c q x = go (odd q) (same r (row v1 x (suc (suc c)))) (agrees-said rs (suc c) (q / 2) x)
+-- They agree exactly if the rules say so, and the row that differs is the one that the rules name.
+pub said-is : (rs : List Bytes) (c q : ℕ) (x : Bytes) → rowsSay c q rs x ≡ cond (agrees v1 c q rs x) Agree (Differ (offRow v1 c rs x))
+unfolding agrees offRow rowsSay
+said-is [] c q x = refl
+said-is (r ∷ rs) c q x = go (odd q) (same r (row v1 x (suc (suc c)))) (said-is rs (suc c) (q / 2) x)
   where
-    go : (b d : Bool) → agrees v1 (suc c) (q / 2) rs x ≡ agree (rowsSay (suc c) (q / 2) rs x)
-        → cond b (d && agrees v1 (suc c) (q / 2) rs x) true ≡ agree (cond b (cond d (rowsSay (suc c) (q / 2) rs x) (Differ c)) Agree)
+    go : (b d : Bool) → rowsSay (suc c) (q / 2) rs x ≡ cond (agrees v1 (suc c) (q / 2) rs x) Agree (Differ (offRow v1 (suc c) rs x))
+        → cond b (cond d (rowsSay (suc c) (q / 2) rs x) (Differ c)) Agree
+        ≡ cond (cond b (d && agrees v1 (suc c) (q / 2) rs x) true) Agree (Differ (cond d (offRow v1 (suc c) rs x) c))
     go false d r = refl
     go true false r = refl
     go true true r = r

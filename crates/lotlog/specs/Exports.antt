@@ -27,9 +27,9 @@ telling x = told (x .0) (x .1)
 pub one-told : (o : Told) → One telling o
 one-told o = one-outcome telling (λ t. (t .number, t .answer)) (λ x. refl) o
 
--- 01's number, and the one number that is given with it
+-- 01's number; the number that is given with it, and 02's place (A5)
 abbrev pub answered : Answer → Told
-answered a = told (a .number) (a .value ∷ 0 ∷ 0 ∷ [])
+answered a = told (a .number) (a .value ∷ a .place .element ∷ a .place .level ∷ [])
 
 -- ---- a number and lent bytes
 
@@ -75,7 +75,7 @@ writing x = wrote (x .0) (x .1) (x .2)
 pub one-wrote : (o : Wrote) → One writing o
 one-wrote o = one-outcome writing (λ w. (w .told .number, w .told .answer, w .bytes)) (λ x. refl) o
 
--- an outcome of the rules: its one number answered, its bytes left
+-- an outcome of the rules: its answer told, its bytes left
 abbrev pub spoken : Written → Wrote
 spoken w = record { told = answered (w .answer); bytes = w .bytes }
 

@@ -63,7 +63,7 @@ lotBuildAdvancement s i n out = spoken (buildAdvancementCall hashOf v1 s i n out
 unfoldable pub lotCheckMembership : Bytes → ℕ → ℕ → Bytes → Bytes → Told
 lotCheckMembership e i n D p = answered (memberCall hashOf v1 e i n D p)
 
--- an outcome of the rules: its one number answered, and the bytes of the state held after it, unless it is a refusal
+-- an outcome of the rules: its answer told, and the bytes of the state held after it, unless it is a refusal
 abbrev pub advances : Advanced → Bytes → Wrote
 advances o b = record { told = answered (o .answer); bytes = unlessRefused (o .answer .number) (wireOf (o .held)) b }
 

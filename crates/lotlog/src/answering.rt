@@ -8,7 +8,7 @@ use numbers::Said;
 pub fn tell(s: Said, answer: &mut [u64; 3]) -> u64
     ensures { λ r. ⌜ told r (now (answer .exit)) ≡ answered (answerOf s) ⌝ }
 {
-    *answer = [s.value, 0, 0];
+    *answer = [s.value, s.element, s.level];
     s.number
 }
 

@@ -10,7 +10,8 @@ use path::Position;
 use wire::HELD_BYTES;
 use wire::read_held;
 
-// Whether `entry` is element i of the log with n elements and this digest, by the proof. Answer: the hops found good.
+// Whether `entry` is element i of the log with n elements and this digest, by the proof. Answer: the hops found good;
+// with 10, also the element reached and the level hopped, else 0.
 #[no_mangle]
 pub extern "C" fn lot_check_membership(
     entry: &[u8],
@@ -28,7 +29,7 @@ pub extern "C" fn lot_check_membership(
 }
 
 // Whether the log that `held` tells of has gone on to n elements and this digest, by the proof; if so, `held` becomes the state there. Answer: the
-// hops found good.
+// hops found good; with 9 and 10, also the element reached and the row or the level hopped, else 0.
 #[no_mangle]
 pub extern "C" fn lot_check_advancement(
     held: &mut [u8; HELD_BYTES],

@@ -13,14 +13,14 @@ use Rattle.rules.specs.Numbers.{v1}
 use Rattle.rules.specs.Paths.{level, hops, path}
 use Rattle.rules.specs.Messages.{size, total}
 use Rattle.rules.specs.Refusals.{linkDiffers, digestDiffers}
-use Rattle.rules.specs.Checking.{Verdict as Judged, accepted, refused, must, walk}
+use Rattle.rules.specs.Checking.{Place, place, Verdict as Judged, accepted, refused, mustAt, must, walk}
 use Rattle.rules.specs.Hops.{level-hop, hops-step}
 use Rattle.rules.specs.Bounds.{total-step, total-first}
 use Rattle.rules.specs.Walking.{walk-end}
 use Rattle.membership.specs.declared.Walk.{Walk}
-use Rattle.membership.specs.declared.Hop.the-variants.{Good}
+use Rattle.membership.specs.declared.Hop.the-variants.{Good, Link}
 use Rattle.membership.specs.declared.Hopped.{Hopped}
-use Rattle.membership.specs.Hopping.{toHere, linkHolds, onward, hopOf, hop-good, good-test, bad-test}
+use Rattle.membership.specs.Hopping.{levelHere, toHere, linkHolds, onward, hopOf, hop-good, good-test, link-test}
 
 -- the verdict of the walk from where it stands, with k hops good
 abbrev pub verdictFrom : ℕ → Bytes → Bytes → Walk → ℕ → Judged ℕ
@@ -38,16 +38,18 @@ module _ (n : ℕ) (p D : Bytes) (w₀ w : Walk) (k : ℕ) (s : Stands n p D w�
     pub room : w .next + size v1 (toHere p n w) ≤ length p
     room = omega (arith, s .left, total-step v1 (w .at .0) n h, total-first v1 (toHere p n w) n)
 
-    step : (b : Bool) → linkHolds p n w ≡ b → verdictFrom n p D w₀ 0 ≡ must b linkDiffers k (verdictFrom n p D (onward p n w) (suc k))
+    step : (b : Bool) → linkHolds p n w ≡ b → verdictFrom n p D w₀ 0 ≡ mustAt (place (toHere p n w) (levelHere p n w)) b linkDiffers k (verdictFrom n p D (onward p n w) (suc k))
     unfolding walk
     step b e =
         s .decides
         ∙ ap (λ (ls : List ℕ). walk hashOf v1 (w .at .0) (w .digest .bytes) ls p (w .next) D k) (hops-step (w .at .0) n h)
-        ∙ ap (λ (x : Bool). must x linkDiffers k (verdictFrom n p D (onward p n w) (suc k))) e
+        ∙ ap (λ (x : Bool). mustAt (place (toHere p n w) (levelHere p n w)) x linkDiffers k (verdictFrom n p D (onward p n w) (suc k))) e
 
     module _ (r : Hopped) (e : r ≡ hopOf p n w) where
-      pub refuses : (r .verdict ≡ Good → ⊥) → refused linkDiffers k ≡ verdictFrom n p D w₀ 0
-      refuses v = sym (step false (bad-test p n w (λ x. v (ap (λ (y : Hopped). y .verdict) e ∙ x))))
+      pub refuses : (j l : ℕ) → r .verdict ≡ Link j l → refused linkDiffers k (place j l) ≡ verdictFrom n p D w₀ 0
+      refuses j l v =
+          let t = link-test p n w j l (sym (ap (λ (y : Hopped). y .verdict) e) ∙ v) in
+          ap (λ (x : Place). refused linkDiffers k x) (t .1) ∙ sym (step false (t .0))
 
       pub goes-on : r .verdict ≡ Good → Stands n p D w₀ (r .state) (k + 1) × (w .at .0 < r .state .at .0)
       goes-on v =

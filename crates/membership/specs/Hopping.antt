@@ -1,5 +1,5 @@
 -- One hop of a walk, as the code takes it: on to the next element, or the link that differs.
-use mathlib.Core.Path.{_≡_, refl, ap}
+use mathlib.Core.Path.{_≡_, refl, sym, ap, ap₂, _∙_}
 use mathlib.Core.Bool.{Bool, true, false, cond}
 use Prim.Native.Nat.{ℕ, suc, _+_, _^_}
 use native.Mathlib.Omega.{arith}
@@ -8,7 +8,7 @@ use Rattle.hash.specs.Hash.{hashOf}
 use Rattle.rules.specs.Numbers.{v1}
 use Rattle.rules.specs.Paths.{level}
 use Rattle.rules.specs.Messages.{size, row, part}
-use Rattle.rules.specs.Checking.{digestAt}
+use Rattle.rules.specs.Checking.{place, digestAt}
 use Rattle.membership.specs.declared.Walk.{Walk}
 use Rattle.membership.specs.declared.Hop.the-variants.{Good, Link}
 use Rattle.membership.specs.declared.Hopped.{Hopped}
@@ -50,9 +50,11 @@ module _ (p : Bytes) (n : ℕ) (w : Walk) where
       go true e = refl
       go false e = let f = hop-bad e in absurd (let z : _≡_ {A = ℕ} 0 1 = cc in omega arith)
 
-  pub bad-test : (hopOf .verdict ≡ Good → ⊥) → linkHolds ≡ false
-  bad-test h = go linkHolds refl
+  pub link-test : (j l : ℕ) → hopOf .verdict ≡ Link j l → (linkHolds ≡ false) × (place j l ≡ place toHere levelHere)
+  link-test j l h = go linkHolds refl
     where
-      go : (b : Bool) → linkHolds ≡ b → b ≡ false
-      go true e = absurd (h (ap (λ (r : Hopped). r .verdict) (hop-good e)))
-      go false e = refl
+      go : (b : Bool) → linkHolds ≡ b → (linkHolds ≡ false) × (place j l ≡ place toHere levelHere)
+      go true e = let f = hop-good e in absurd (let z : _≡_ {A = ℕ} 0 1 = cc in omega arith)
+      go false e =
+          let f : Link j l ≡ Link toHere levelHere = sym h ∙ ap (λ (r : Hopped). r .verdict) (hop-bad e) in
+          (e, ap₂ place (cc) (cc))

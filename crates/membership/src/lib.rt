@@ -16,14 +16,14 @@ use messages::same_digest;
 use path::Length;
 use path::Position;
 
-// What the check finds; `hops` are the hops found good.
+// What the check finds; `hops` are the hops found good, and `element` and `level` say where a link differs: the element reached and the level hopped.
 pub enum Verdict {
     Accepted { hops: u64 },
     EntryTooLong,
     NoSuchElement,
     WrongLength,
     OtherEntry,
-    LinkDiffers { hops: u64 },
+    LinkDiffers { hops: u64, element: u64, level: u64 },
     DigestDiffers { hops: u64 },
 }
 
@@ -96,9 +96,13 @@ fn follow(start: Walk, n: Length, digest: Digest, proof: &[u8]) -> Verdict
     while state.at.0 < n.0 {
         let r = take_hop(state, n, proof);
         let v = r.verdict;
-        let Hop::Good = v else {
-            return Verdict::LinkDiffers { hops: good };
-        };
+        if let Hop::Link { element, level } = v {
+            return Verdict::LinkDiffers {
+                hops: good,
+                element: element,
+                level: level,
+            };
+        }
         state = r.state;
         good += 1;
     }

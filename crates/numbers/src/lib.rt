@@ -1,5 +1,5 @@
 // The numbers of documents 01 and 02: what each call answers, for a caller that has numbers alone. With the number goes one more: the count, the proof's
-// length, the hops found good, or the wrong element.
+// length, the hops found good, or the wrong element; and with 9 and 10 the place where a proof broke, which is 0, 0 with every other number.
 ghost use mathlib.Core.Path.{_≡_};
 ghost use Rattle.store.specs.Told as read;
 ghost use Rattle.audit.specs.Told.{auditTold};
@@ -26,16 +26,24 @@ use store::Found;
 use store::Started;
 use trie::RootAnswer;
 
-// 01's number, and the number given with it.
+// 01's number, the number given with it, and where a proof broke: the element reached, and the row for 9 or the level hopped for 10.
 pub struct Said {
     pub number: u64,
     pub value: u64,
+    pub element: u64,
+    pub level: u64,
 }
 
+// What shows no place.
 pub fn say(number: u64, value: u64) -> Said
-    ensures { λ r. ⌜ (r .number ≡ number) × (r .value ≡ value) ⌝ }
+    ensures { λ r. ⌜ (r .number ≡ number) × (r .value ≡ value) × (r .element ≡ 0) × (r .level ≡ 0) ⌝ }
 {
-    Said { number, value }
+    Said {
+        number,
+        value,
+        element: 0,
+        level: 0,
+    }
 }
 
 // The number of what starting a store comes to.
@@ -104,7 +112,7 @@ pub fn built(b: Built) -> Said
     }
 }
 
-// The number and the hops found good.
+// The number, the hops found good, and the place.
 pub fn member(v: Verdict) -> Said
     ensures { λ r. ⌜ Says r (memberAnswer (verdictOf v)) ⌝ }
 {
@@ -114,12 +122,21 @@ pub fn member(v: Verdict) -> Said
         Verdict::NoSuchElement => say(4, 0),
         Verdict::WrongLength => say(7, 0),
         Verdict::OtherEntry => say(8, 0),
-        Verdict::LinkDiffers { hops } => say(10, hops),
+        Verdict::LinkDiffers {
+            hops,
+            element,
+            level,
+        } => Said {
+            number: 10,
+            value: hops,
+            element,
+            level,
+        },
         Verdict::DigestDiffers { hops } => say(11, hops),
     }
 }
 
-// The number and the hops found good.
+// The number, the hops found good, and the place.
 pub fn advanced(v: Advance) -> Said
     ensures { λ r. ⌜ Says r (answerOf v) ⌝ }
 {
@@ -128,8 +145,22 @@ pub fn advanced(v: Advance) -> Said
         Advance::StateBroken => say(2, 0),
         Advance::NoSuchLength => say(4, 0),
         Advance::WrongLength => say(7, 0),
-        Advance::RowDiffers { hops } => say(9, hops),
-        Advance::LinkDiffers { hops } => say(10, hops),
+        Advance::RowDiffers { hops, element, row } => Said {
+            number: 9,
+            value: hops,
+            element,
+            level: row,
+        },
+        Advance::LinkDiffers {
+            hops,
+            element,
+            level,
+        } => Said {
+            number: 10,
+            value: hops,
+            element,
+            level,
+        },
         Advance::DigestDiffers { hops } => say(11, hops),
     }
 }

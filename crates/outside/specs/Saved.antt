@@ -24,7 +24,7 @@ state n d r0 r1 = record { log = 7; count = n; digest = d; rows = r0 ∷ r1 ∷ 
 abbrev two : Held
 two = state 2 made.second (replicate 32 0) made.start
 
-abbrev three : Held
+abbrev pub three : Held
 three = state 3 made.third made.second made.start
 
 -- a state as bytes, and what reading gives

@@ -19,7 +19,7 @@ use Rattle.rules.specs.Messages.{startMsg, entryMsg, size, total, row, p
 use Rattle.rules.specs.Refusals.{stateBroken, tooLong, noSuchNumber, wrongLength, otherEntry, rowDiffers, linkDiffers, digestDiffers}
 use Rattle.rules.specs.Held.{Held, freeZero, inOrder}
 use Rattle.rules.specs.Checking.{accepted, between, upward, digestAt, walk, member, agrees, hopped, advanceWalk, advance}
-use Rattle.rules.specs.Verdicts.{must-accepted, upward-true}
+use Rattle.rules.specs.Verdicts.{must-at-accepted, must-accepted, upward-true}
 use Rattle.rules.specs.Hops.{hops-step, end, Rides, hops-ride}
 use Rattle.rules.specs.Carrying.{rows-checked, rows-after-length, rows-after-free}
 
@@ -61,7 +61,7 @@ module _ (H : Bytes → Bytes) (v : Version) where
       (row v (part v p o i) (suc l) ≡ t) × (walk H v i (digestAt H v p o i) ls p (o + size v i) D (suc k) ≡ accepted m)
   unfolding walk
   walk-hopped j t l ls p o D k m h =
-      let a = must-accepted (same (row v (part v p o (j + 2 ^ l)) (suc l)) t) linkDiffers k m _ h in (same-true (row v (part v p o (j + 2 ^ l)) (suc l)) t (a .0), a .1)
+      let a = must-at-accepted _ (same (row v (part v p o (j + 2 ^ l)) (suc l)) t) linkDiffers k m _ h in (same-true (row v (part v p o (j + 2 ^ l)) (suc l)) t (a .0), a .1)
 
   walk-count : (ls : List ℕ) (j : ℕ) (t p D : Bytes) (o k m : ℕ) → walk H v j t ls p o D k ≡ accepted m → m ≡ k + length ls
   walk-count [] j t p D o k m h = let a = walk-ended j t p o D k m h .1 in omega arith
@@ -102,8 +102,8 @@ module _ (H : Bytes → Bytes) (v : Version) where
   unfolding advanceWalk
   good-hop h l ls p o D k m e =
       let to = h .count + 2 ^ l in
-      let a = must-accepted (agrees v l (h .count / 2 ^ l) (drop l (h .rows)) (part v p o to)) rowDiffers k m _ e in
-      let b = must-accepted (same (row v (part v p o to) (suc l)) (h .digest)) linkDiffers k m _ (a .1) in
+      let a = must-at-accepted _ (agrees v l (h .count / 2 ^ l) (drop l (h .rows)) (part v p o to)) rowDiffers k m _ e in
+      let b = must-at-accepted _ (same (row v (part v p o to) (suc l)) (h .digest)) linkDiffers k m _ (a .1) in
       record { rows = a .0; link = same-true _ _ (b .0); rest = b .1 }
 
   -- what is handed back by a walk of s hops to the number n

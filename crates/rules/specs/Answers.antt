@@ -10,7 +10,7 @@ use Rattle.rules.specs.Numbers.{Version, entryLimit}
 use Rattle.rules.specs.Refusals.{done, storeDamaged, tooLong, noSuchNumber, storeFull, outputShort, elementWrong}
 use Rattle.rules.specs.Store.{headerSize, capacity, countOf, damaged, logOf, tOf, started, stores, countAfter, cutAt, lowestWrong}
 use Rattle.rules.specs.Held.{heldOf, heldZeros}
-use Rattle.rules.specs.Calls.{Answer, gives, refuses, written, found, heldFound, over, startCall, countCall, appendCall, digestCall, heldCall, buildCall, judged, auditCall}
+use Rattle.rules.specs.Calls.{Answer, gives, refusesWith, refuses, written, found, heldFound, over, startCall, countCall, appendCall, digestCall, heldCall, buildCall, judged, auditCall}
 
 -- ---- starting a store: 6
 
@@ -129,7 +129,7 @@ module _ (H : Bytes → Bytes) (v : Version) (s : Bytes) where
   audit-judged d = rw d
 
 -- A lowest wrong element is named.
-pub judged-wrong : (j n : ℕ) → (j ≡ 0 → ⊥) → judged j n ≡ record { number = elementWrong; value = j }
+pub judged-wrong : (j n : ℕ) → (j ≡ 0 → ⊥) → judged j n ≡ refusesWith elementWrong j
 judged-wrong zero n h = absurd (h refl)
 judged-wrong (suc j) n h = refl
 

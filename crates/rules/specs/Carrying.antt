@@ -1,20 +1,20 @@
 -- One hop on the rows of any state, made up or not: what the comparison with a component found good, and what the carry leaves.
 use mathlib.Core.Path.{_≡_, refl, sym, ap, _∙_}
-use mathlib.Core.Logic.{_⊎_, inl, inr}
-use mathlib.Core.Bool.{true, false, _||_, and-eq-true-iff}
+use mathlib.Core.Logic.{_≢_, _⊎_, inl, inr}
+use mathlib.Core.Bool.{Bool, true, false, cond, _&&_, _||_, true≢false, and-eq-true-iff}
 use mathlib.Core.List.{List, [], _∷_, _++_}
-use Prim.Native.Nat.{ℕ, zero, suc, _+_, _-_, _/_, _%_, _^_, _<_}
+use Prim.Native.Nat.{ℕ, zero, suc, _+_, _-_, _/_, _%_, _^_, _≤_, _<_}
 use native.Mathlib.Nat.{le-of-suc-le-suc, add-zero, div-one, pow-suc}
 use native.Mathlib.Omega.{arith}
 use native.Mathlib.Numerals.{add-one}
 use lib.ListN.{length, getD, take, drop, length-append, take-append-drop}
 use borrow.Author.Tests.{eq-eqb, ne-eqb}
 use Rattle.lists.specs.Bytes.{Bytes, same, zeros}
-use Rattle.lists.specs.Same.{same-true}
+use Rattle.lists.specs.Same.{same-true, same-false}
 use Rattle.rules.specs.Numbers.{Version}
 use Rattle.rules.specs.Messages.{row}
 use Rattle.rules.specs.Held.{Held, odd, freeZero}
-use Rattle.rules.specs.Checking.{agrees, carried, rowsAfter}
+use Rattle.rules.specs.Checking.{agrees, offRow, carried, rowsAfter}
 use Rattle.rules.specs.Hops.{split-mod}
 use Rattle.rules.specs.Parity.{half-first, Odd, Even, is-odd, parity}
 
@@ -41,6 +41,63 @@ rows-checked v x (r ∷ rs) c q m a d h = go m (split-mod (suc q) m d) h (rows-c
     go (suc m) d h ih =
         let e : suc q / 2 ≡ suc (q / 2) = is-odd q (used (d .0)) .half in
         ih m (good (d .0) .1) (rw e at (d .1)) (le-of-suc-le-suc h) ∙ ap (λ (k : ℕ). row v x (suc (suc k))) (let f : suc c + m ≡ c + suc m = omega arith in f)
+
+-- what a comparison that fails found: row c + m is the lowest that differs, and it is in use, as each row is that was compared before it
+pub record Off (v : Version) (x : Bytes) (c q : ℕ) (rs : List Bytes) (m : ℕ) : Type 0 where
+  pub there : m < length rs
+  pub used : (b : ℕ) → b ≤ m → odd (q / 2 ^ b) ≡ true
+  pub differs : getD rs m [] ≢ row v x (suc (suc (c + m)))
+  pub before : (b : ℕ) → b < m → getD rs b [] ≡ row v x (suc (suc (c + b)))
+
+-- Where rows do not agree with a component, the row that is named is such a one.
+pub off-row : (v : Version) (x : Bytes) (rs : List Bytes) (c q : ℕ) → agrees v c q rs x ≡ false → (m : ℕ) × (offRow v c rs x ≡ c + m) × Off v x c q rs m
+unfolding agrees offRow
+off-row v x [] c q a = absurd (true≢false a)
+off-row v x (r ∷ rs) c q a = go (odd q) (same r link) refl refl a (off-row v x rs (suc c) (q / 2))
+  where
+    link : Bytes
+    link = row v x (suc (suc c))
+
+    -- the number of a row, counted from the row behind the first
+    shift : (m : ℕ) → suc c + m ≡ c + suc m
+    shift m = omega arith
+
+    -- the bits and the rows, the first and those behind it
+    bits : (m : ℕ) → odd q ≡ true → ((b : ℕ) → b < m → odd (q / 2 / 2 ^ b) ≡ true) → (b : ℕ) → b ≤ m → odd (q / 2 ^ b) ≡ true
+    bits m o f zero h = rw div-one o
+    bits m o f (suc b) h = rw (half-first q b) (f b h)
+
+    below : (m : ℕ) → r ≡ link → ((b : ℕ) → b < m → getD rs b [] ≡ row v x (suc (suc (suc c + b)))) → (b : ℕ) → b < suc m → getD (r ∷ rs) b [] ≡ row v x (suc (suc (c + b)))
+    below m e f zero h = rw add-zero e
+    below m e f (suc b) h = f b (le-of-suc-le-suc h) ∙ ap (λ (k : ℕ). row v x (suc (suc k))) (shift b)
+
+    go : (u t : Bool) → odd q ≡ u → same r link ≡ t → cond u (t && agrees v (suc c) (q / 2) rs x) true ≡ false
+        → (agrees v (suc c) (q / 2) rs x ≡ false → (m : ℕ) × (offRow v (suc c) rs x ≡ suc c + m) × Off v x (suc c) (q / 2) rs m)
+        → (m : ℕ) × (cond t (offRow v (suc c) rs x) c ≡ c + m) × Off v x c q (r ∷ rs) m
+    go false t o e a ih = absurd (true≢false a)
+    go true false o e a ih = (
+      0,
+      sym (add-zero c),
+      record {
+        there = omega arith;
+        used = bits 0 o (λ b h. absurd (omega arith));
+        differs = λ d. same-false r link e (d ∙ ap (λ (k : ℕ). row v x (suc (suc k))) (add-zero c));
+        before = λ b h. absurd (omega arith);
+      },
+    )
+    go true true o e a ih =
+        let w = ih a in
+        let m = w .0 in
+        let f = w .2 in (
+          suc m,
+          w .1 ∙ shift m,
+          record {
+            there = omega (arith, f .there);
+            used = bits (suc m) o (λ b h. f .used b (le-of-suc-le-suc h));
+            differs = λ d. f .differs (d ∙ ap (λ (k : ℕ). row v x (suc (suc k))) (sym (shift m)));
+            before = below m (same-true r link e) (f .before);
+          },
+        )
 
 -- ---- the carry
 

@@ -1,5 +1,5 @@
 -- 01, "What a practice holds": checking membership and advancement, for any hash H. "Checks run in number order, but 9 and 10 go hop by
--- hop, the first bad hop deciding."
+-- hop, the first bad hop deciding." And 02, A5: where a proof broke.
 use mathlib.Core.Bool.{Bool, true, false, cond, _&&_}
 use mathlib.Core.List.{List, [], _∷_, _++_}
 use Prim.Native.Nat.{ℕ, suc, _+_, _/_, _^_}
@@ -12,20 +12,36 @@ use Rattle.rules.specs.Messages.{entryMsg, elementMsg, size, total, row,
 use Rattle.rules.specs.Refusals.{stateBroken, tooLong, noSuchNumber, wrongLength, otherEntry, rowDiffers, linkDiffers, digestDiffers}
 use Rattle.rules.specs.Held.{Held, odd, inOrder}
 
+-- 02, A5: "Refusals 9 and 10 in 01 gain these two numbers: the element reached, and the row for 9 or the level hopped for 10."
+pub record Place : Type 0 where
+  pub element : ℕ
+  pub level : ℕ
+
+abbrev pub place : ℕ → ℕ → Place
+place j l = record { element = j; level = l }
+
+-- "All other refusals, 13 too, show 0 there."
+abbrev pub nowhere : Place
+nowhere = place 0 0
+
 -- "The verdict, for advancing too, carries the number of hops found good"
 pub data Verdict (A : Type 0) : Type 0 where
   accepted : A → Verdict A
-  refused : ℕ → ℕ → Verdict A  -- the number, the hops found good
+  refused : ℕ → ℕ → Place → Verdict A  -- the number, the hops found good, the place
 
 module _ {A : Type 0} where
-  -- a check: where it fails, its number and the hops found good before it
+  -- a check at a place: where it fails, its number, the hops found good before it, and the place
+  abbrev pub mustAt : Place → Bool → ℕ → ℕ → Verdict A → Verdict A
+  mustAt w true num k x = x
+  mustAt w false num k x = refused num k w
+
+  -- a check whose refusal shows no place
   abbrev pub must : Bool → ℕ → ℕ → Verdict A → Verdict A
-  must true num k x = x
-  must false num k x = refused num k
+  must b num k x = mustAt nowhere b num k x
 
   abbrev pub isAccepted : Verdict A → Bool
   isAccepted (accepted x) = true
-  isAccepted (refused num k) = false
+  isAccepted (refused num k w) = false
 
 -- what is not "i = 0, i > n, or n over the limit"
 abbrev pub between : Version → ℕ → ℕ → Bool
@@ -47,7 +63,7 @@ module _ (H : Bytes → Bytes) (v : Version) where
   unfoldable pub walk : ℕ → Bytes → List ℕ → Bytes → ℕ → Bytes → ℕ → Verdict ℕ
   walk j t [] p o D k = must (same t D) digestDiffers k (accepted k)
   walk j t (l ∷ ls) p o D k =
-      must (same (row v (part v p o (j + 2 ^ l)) (suc l)) t) linkDiffers k
+      mustAt (place (j + 2 ^ l) l) (same (row v (part v p o (j + 2 ^ l)) (suc l)) t) linkDiffers k
       (walk (j + 2 ^ l) (digestAt p o (j + 2 ^ l)) ls p (o + size v (j + 2 ^ l)) D (suc k))
 
   -- "Checking membership takes entry, i, n, digest and proof. The first d must be the entry's"
@@ -65,6 +81,11 @@ module _ (H : Bytes → Bytes) (v : Version) where
 unfoldable pub agrees : Version → ℕ → ℕ → List Bytes → Bytes → Bool
 agrees v c q [] x = true
 agrees v c q (r ∷ rs) x = cond (odd q) (same r (row v x (suc (suc c))) && agrees v (suc c) (q / 2) rs x) true
+
+-- the row that refusal 9 names: the lowest from c up that is not that link. Where the rows do not agree it is in use, and so is each below it.
+unfoldable pub offRow : Version → ℕ → List Bytes → Bytes → ℕ
+offRow v c [] x = c
+offRow v c (r ∷ rs) x = cond (same r (row v x (suc (suc c)))) (offRow v (suc c) rs x) c
 
 -- "If row l is free it takes T(j). Otherwise .. the last such value moves to the first free row and the others become zero."
 unfoldable pub carried : ℕ → List Bytes → Bytes → List Bytes
@@ -88,8 +109,8 @@ module _ (H : Bytes → Bytes) (v : Version) where
   advanceWalk h [] p o D k = must (same (h .digest) D) digestDiffers k (accepted (k, h))
   advanceWalk h (l ∷ ls) p o D k =
       let to = h .count + 2 ^ l in
-      must (agrees v l (h .count / 2 ^ l) (drop l (h .rows)) (part v p o to)) rowDiffers k
-      (must (same (row v (part v p o to) (suc l)) (h .digest)) linkDiffers k
+      mustAt (place to (offRow v l (drop l (h .rows)) (part v p o to))) (agrees v l (h .count / 2 ^ l) (drop l (h .rows)) (part v p o to)) rowDiffers k
+      (mustAt (place to l) (same (row v (part v p o to) (suc l)) (h .digest)) linkDiffers k
       (advanceWalk (hopped h l p o) ls p (o + size v to) D (suc k)))
 
   unfoldable pub advance : Held → ℕ → Bytes → Bytes → Verdict (ℕ × Held)

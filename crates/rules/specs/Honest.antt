@@ -16,7 +16,7 @@ use Rattle.rules.specs.Paths.{tz, after, hops, path, pathAfter}
 use Rattle.rules.specs.Messages.{elementMsg, entryMsg, size, total, row, part, links, component, components, membershipProof, Lawful}
 use Rattle.rules.specs.Refusals.{tooLong, noSuchNumber, wrongLength, otherEntry, linkDiffers}
 use Rattle.rules.specs.Checking.{accepted, between, digestAt, walk, member}
-use Rattle.rules.specs.Verdicts.{must-go, between-true}
+use Rattle.rules.specs.Verdicts.{must-at-go, must-go, between-true}
 use Rattle.rules.specs.Hops.{hop-tz, end, Rides, hops-ride, end-le}
 
 -- ---- the rows of a component
@@ -119,7 +119,7 @@ module _ (H : Bytes → Bytes) (v : Version) (body T : ℕ → Bytes) (n : ℕ) 
       let c = component body T i in
       let rest = components body T (after i ls) in
       let m = met j l ls pre o e r h in
-      must-go _ linkDiffers k _ (same-eq _ (T j) (m .link))
+      must-at-go _ _ linkDiffers k _ (same-eq _ (T j) (m .link))
       ∙ ap₂ (λ (t p : Bytes). walk H v i t ls p (o + size v i) (T (end i ls)) (suc k)) (m .hashed) (sym (append-assoc pre c rest))
       ∙ honest-walk ls i (pre ++ c) (o + size v i) (suc k) (onward j l pre o e (m .low) (m .high)) (r .2) h
       ∙ ap accepted (omega arith)

@@ -18,7 +18,7 @@ use Rattle.rules.specs.Messages.{startMsg, size, part, component, compon
 use Rattle.rules.specs.Refusals.{stateBroken, noSuchNumber, wrongLength, rowDiffers, linkDiffers}
 use Rattle.rules.specs.Held.{basis, heldOf, inOrder}
 use Rattle.rules.specs.Checking.{accepted, agrees, advanceWalk, advance}
-use Rattle.rules.specs.Verdicts.{must-go, upward-test}
+use Rattle.rules.specs.Verdicts.{must-at-go, must-go, upward-test}
 use Rattle.rules.specs.Hops.{level-below, tz-max, end, Rides, hops-ride}
 use Rattle.rules.specs.Rows.{high-rows, hop-rows, agree-rows, basis-free}
 use Rattle.rules.specs.Honest.{component-link, components-length, met, onward}
@@ -49,8 +49,8 @@ module _ (H : Bytes → Bytes) (v : Version) (log : ℕ) (body T : ℕ → Bytes
       let rows : agrees v l (j / 2 ^ l) (drop l (basis T j 0 K)) (part v p o i) ≡ true =
       ap₂ (λ (x : List Bytes) (y : Bytes). agrees v l (j / 2 ^ l) x y) (high-rows T K l j lK (r .1)) (m .there)
       ∙ agree-rows T v i c (λ a g d. component-link H v body T n L i a (m .low) (m .high) (tz-max 64 i a g d)) (K - l) l (j / 2 ^ l) (omega arith) whole in
-      must-go _ rowDiffers k _ rows
-      ∙ must-go _ linkDiffers k _ (same-eq _ (T j) (m .link))
+      must-at-go _ _ rowDiffers k _ rows
+      ∙ must-at-go _ _ linkDiffers k _ (same-eq _ (T j) (m .link))
       ∙ ap₂ (λ (t : Bytes) (x : List Bytes). advanceWalk H v (record { log = log; count = i; digest = t; rows = x }) ls p (o + size v i) (T (end i ls)) (suc k)) (m .hashed) (hop-rows T K l j lK (r .1))
       ∙ ap (λ (x : Bytes). advanceWalk H v (heldOf v log T i) ls x (o + size v i) (T (end i ls)) (suc k)) (sym (append-assoc pre c rest))
       ∙ honest-walk ls i (pre ++ c) (o + size v i) (suc k) (onward H v body T n L j l pre o e (m .low) (m .high)) (r .2) h

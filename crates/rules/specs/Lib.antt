@@ -18,6 +18,8 @@ pub mod Parity  -- the lowest bit of a number, and the next number
 pub mod Carrying  -- one hop on the rows of any state
 pub mod Walking  -- the two checks hop by hop, at the numbers that code has
 pub mod Acceptance  -- what acceptance says: the path's hops, the state handed back
+pub mod Broken  -- WHERE A MEMBERSHIP PROOF BROKE: the place beside 10 is true, and no other answer shows one
+pub mod BrokenAdvance  -- WHERE AN ADVANCEMENT BROKE: the same of 9 and 10
 pub mod Settled  -- the dispute theorem
 pub mod Spots  -- the differing component nearest n, found from the front
 pub mod Shown  -- the dispute theorem for the whole outcome of the call

@@ -85,19 +85,19 @@ module _ (v : Version) (p q : Bytes) where
 module _ (o : Disputed) (b1 b2 : Bytes) where
   -- Where the first is refused, 1 is said, whatever the second is;
   pub first-refused : (x y : Verdict ℕ) → isAccepted x ≡ false → bothAccepted x y o b1 b2 ≡ disputed (denied notAccepted 1) b1 b2
-  first-refused (refused num k) y e = refl
+  first-refused (refused num k w) y e = refl
   first-refused (accepted m) y e = absurd (true≢false e)
 
   -- where only the second is, 2.
   pub second-refused : (x y : Verdict ℕ) → isAccepted x ≡ true → isAccepted y ≡ false → bothAccepted x y o b1 b2 ≡ disputed (denied notAccepted 2) b1 b2
-  second-refused (refused num k) y e f = absurd (false≢true e)
-  second-refused (accepted m) (refused num k) e f = refl
+  second-refused (refused num k w) y e f = absurd (false≢true e)
+  second-refused (accepted m) (refused num k w) e f = refl
   second-refused (accepted m) (accepted m') e f = absurd (true≢false f)
 
   -- Where both are accepted the outcome is that of the dispute.
   pub none-refused : (x y : Verdict ℕ) → isAccepted x ≡ true → isAccepted y ≡ true → bothAccepted x y o b1 b2 ≡ o
-  none-refused (refused num k) y e f = absurd (false≢true e)
-  none-refused (accepted m) (refused num k) e f = absurd (false≢true f)
+  none-refused (refused num k w) y e f = absurd (false≢true e)
+  none-refused (accepted m) (refused num k w) e f = absurd (false≢true f)
   none-refused (accepted m) (accepted m') e f = refl
 
 -- The whole outcome of the dispute, by what its parts give.

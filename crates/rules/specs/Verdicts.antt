@@ -9,33 +9,45 @@ use borrow.Author.Tests.{leb-true, le-leb}
 use Rattle.lists.specs.Bytes.{Bytes}
 use Rattle.rules.specs.Numbers.{Version, limit}
 use Rattle.rules.specs.Messages.{elementHead, elementMsg}
-use Rattle.rules.specs.Checking.{Verdict, accepted, refused, must, isAccepted, between, upward}
+use Rattle.rules.specs.Checking.{Place, nowhere, Verdict, accepted, refused, mustAt, must, isAccepted, between, upward}
 
 -- ---- checks
 
 module _ {A : Type 0} where
-  -- Where the verdict is accepted, the check passed, and what comes after it is accepted.
-  pub must-accepted : (b : Bool) (num k : ℕ) (m : A) (x : Verdict A) → must b num k x ≡ accepted m → (b ≡ true) × (x ≡ accepted m)
-  must-accepted true num k m x e = (refl, e)
-  must-accepted false num k m x e = let z : _≡_ {A = ℕ} 0 1 = cc in absurd (omega arith)
+  module _ (w : Place) (b : Bool) (num k : ℕ) where
+    -- Where the verdict is accepted, the check passed, and what comes after it is accepted.
+    pub must-at-accepted : (m : A) (x : Verdict A) → mustAt w b num k x ≡ accepted m → (b ≡ true) × (x ≡ accepted m)
+    must-at-accepted m x = go b
+      where
+        go : (c : Bool) → mustAt w c num k x ≡ accepted m → (c ≡ true) × (x ≡ accepted m)
+        go true e = (refl, e)
+        go false e = let z : _≡_ {A = ℕ} 0 1 = cc in absurd (omega arith)
 
-  -- A check that passes leaves the verdict to what comes after it.
-  pub must-go : (b : Bool) (num k : ℕ) (x : Verdict A) → b ≡ true → must b num k x ≡ x
-  must-go b num k x e = rw e
+    -- A check that passes leaves the verdict to what comes after it.
+    pub must-at-go : (x : Verdict A) → b ≡ true → mustAt w b num k x ≡ x
+    must-at-go x e = rw e
 
-  -- A check that fails decides.
-  pub must-stop : (b : Bool) (num k : ℕ) (x : Verdict A) → b ≡ false → must b num k x ≡ refused num k
-  must-stop b num k x e = rw e
+    -- A check that fails decides.
+    pub must-at-stop : (x : Verdict A) → b ≡ false → mustAt w b num k x ≡ refused num k w
+    must-at-stop x e = rw e
+
+  -- The same of the checks that show no place.
+  module _ (b : Bool) (num k : ℕ) where
+    pub must-accepted : (m : A) (x : Verdict A) → must b num k x ≡ accepted m → (b ≡ true) × (x ≡ accepted m)
+    must-accepted = must-at-accepted nowhere b num k
+
+    pub must-go : (x : Verdict A) → b ≡ true → must b num k x ≡ x
+    must-go = must-at-go nowhere b num k
 
   -- A verdict that tests as accepted has something that was accepted.
   pub accepted-some : (x : Verdict A) → isAccepted x ≡ true → (m : A) × (x ≡ accepted m)
   accepted-some (accepted m) e = (m, refl)
-  accepted-some (refused num k) e = absurd (false≢true e)
+  accepted-some (refused num k w) e = absurd (false≢true e)
 
   -- A verdict that tests as not accepted is a refusal.
-  pub refused-some : (x : Verdict A) → isAccepted x ≡ false → (num k : ℕ) × (x ≡ refused num k)
+  pub refused-some : (x : Verdict A) → isAccepted x ≡ false → (num k : ℕ) × (w : Place) × (x ≡ refused num k w)
   refused-some (accepted m) e = absurd (true≢false e)
-  refused-some (refused num k) e = (num, k, refl)
+  refused-some (refused num k w) e = (num, k, w, refl)
 
 -- ---- the numbers that are asked for
 

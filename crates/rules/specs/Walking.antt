@@ -15,7 +15,7 @@ use Rattle.rules.specs.Paths.{tz, level, hops, path, pathAfter}
 use Rattle.rules.specs.Messages.{entryMsg, size, total, row, part}
 use Rattle.rules.specs.Refusals.{stateBroken, tooLong, noSuchNumber, wrongLength, otherEntry, rowDiffers, linkDiffers, digestDiffers}
 use Rattle.rules.specs.Held.{Held, inOrder}
-use Rattle.rules.specs.Checking.{accepted, must, between, upward, digestAt, walk, member, agrees, hopped, advanceWalk, advance}
+use Rattle.rules.specs.Checking.{accepted, mustAt, must, place, between, upward, digestAt, walk, member, agrees, offRow, hopped, advanceWalk, advance}
 use Rattle.rules.specs.Hops.{hop-links, hops-step, hops-end}
 
 -- A piece of a front part is a piece of the whole.
@@ -45,12 +45,12 @@ module _ (H : Bytes → Bytes) (v : Version) where
       let l = level j n in
       let to = j + 2 ^ l in
       walk H v j t (hops j n) p o D k
-      ≡ must (same (take 32 (drop (o + (v .before + 32 * suc l)) p)) t) linkDiffers k (walk H v to (digestAt H v p o to) (hops to n) p (o + size v to) D (suc k))
+      ≡ mustAt (place to l) (same (take 32 (drop (o + (v .before + 32 * suc l)) p)) t) linkDiffers k (walk H v to (digestAt H v p o to) (hops to n) p (o + size v to) D (suc k))
   unfolding walk
   walk-step j n t p o D k h =
       let to = j + 2 ^ level j n in
       ap (λ (ls : List ℕ). walk H v j t ls p o D k) (hops-step j n h)
-      ∙ ap (λ (x : Bytes). must (same x t) linkDiffers k (walk H v to (digestAt H v p o to) (hops to n) p (o + size v to) D (suc k))) (link-at v p o j n h)
+      ∙ ap (λ (x : Bytes). mustAt (place to (level j n)) (same x t) linkDiffers k (walk H v to (digestAt H v p o to) (hops to n) p (o + size v to) D (suc k))) (link-at v p o j n h)
 
   -- At n the last digest decides.
   pub walk-end : (j n : ℕ) (t p : Bytes) (o : ℕ) (D : Bytes) (k : ℕ) → j ≡ n → walk H v j t (hops j n) p o D k ≡ must (same t D) digestDiffers k (accepted k)
@@ -75,15 +75,15 @@ module _ (H : Bytes → Bytes) (v : Version) where
       let l = level (h .count) n in
       let to = h .count + 2 ^ l in
       advanceWalk H v h (hops (h .count) n) p o D k
-      ≡ must (agrees v l (h .count / 2 ^ l) (drop l (h .rows)) (part v p o to)) rowDiffers k
-      (must (same (take 32 (drop (o + (v .before + 32 * suc l)) p)) (h .digest)) linkDiffers k (advanceWalk H v (hopped H v h l p o) (hops to n) p (o + size v to) D (suc k)))
+      ≡ mustAt (place to (offRow v l (drop l (h .rows)) (part v p o to))) (agrees v l (h .count / 2 ^ l) (drop l (h .rows)) (part v p o to)) rowDiffers k
+      (mustAt (place to l) (same (take 32 (drop (o + (v .before + 32 * suc l)) p)) (h .digest)) linkDiffers k (advanceWalk H v (hopped H v h l p o) (hops to n) p (o + size v to) D (suc k)))
   unfolding advanceWalk
   advance-walk-step h n p o D k b =
       let l = level (h .count) n in
       let to = h .count + 2 ^ l in
       ap (λ (ls : List ℕ). advanceWalk H v h ls p o D k) (hops-step (h .count) n b)
-      ∙ ap (λ (x : Bytes). must (agrees v l (h .count / 2 ^ l) (drop l (h .rows)) (part v p o to)) rowDiffers k
-      (must (same x (h .digest)) linkDiffers k (advanceWalk H v (hopped H v h l p o) (hops to n) p (o + size v to) D (suc k)))) (link-at v p o (h .count) n b)
+      ∙ ap (λ (x : Bytes). mustAt (place to (offRow v l (drop l (h .rows)) (part v p o to))) (agrees v l (h .count / 2 ^ l) (drop l (h .rows)) (part v p o to)) rowDiffers k
+      (mustAt (place to l) (same x (h .digest)) linkDiffers k (advanceWalk H v (hopped H v h l p o) (hops to n) p (o + size v to) D (suc k)))) (link-at v p o (h .count) n b)
 
   -- At n the last digest decides.
   pub advance-walk-end : (h : Held) (n : ℕ) (p : Bytes) (o : ℕ) (D : Bytes) (k : ℕ) → h .count ≡ n

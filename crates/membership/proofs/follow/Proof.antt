@@ -1,27 +1,14 @@
 -- `membership::follow` meets its contract: the loop's invariant is `Stands`, what is left of the walk decides.
-use mathlib.Core.Path.{_≡_, refl, sym, _∙_}
-use Prim.Native.Nat.{ℕ, _+_, _-_, _<_}
+use mathlib.Core.Path.{refl, sym, _∙_}
+use Prim.Native.Nat.{_+_, _-_, _<_}
 use native.Mathlib.Omega.{arith}
 use borrow.Author.Needs.{needs}
 use borrow.Author.Tests.{not-true, not-false}
 use denote.Ref.{now}
-use denote.Enum.Declared.{tagOf}
 use Rattle.membership.specs.Verdicts.{verdictOf}
-use Rattle.membership.specs.declared.Hop.{Hop}
-use Rattle.membership.specs.declared.Hop.the-variants.{Good, Link}
-use Rattle.membership.proofs.Hop.{the-type}
 use Rattle.membership.proofs.Walking.{Stands, room, refuses, goes-on, settles}
 use Rattle.membership.proofs.follow.Statement.{statement}
 use Rattle.membership.proofs.follow.Tie as tie
-
--- a hop's verdict by its tag
-good : (v : Hop) → tagOf the-type v ≡ 0 → v ≡ Good
-good Good e = refl
-good (Link j l) e = absurd (omega arith)
-
-bad : (v : Hop) → tagOf the-type v ≡ 1 → v ≡ Good → ⊥
-bad Good e f = omega arith
-bad (Link j l) e f = let z : _≡_ {A = ℕ} 0 1 = cc in omega arith
 
 abbrev Inv-loop : tie.InvT-loop
 Inv-loop n digest proof state₀ good₀ state good = Stands (n .0) proof (digest .bytes) state₀ state good
@@ -37,18 +24,19 @@ take-hop-requires c κs =
     let l = c .before .before .before .loop in
     (c .if1 .taken, room _ _ _ _ (l .state) (l .good) (l .inv) (c .if1 .taken))
 
-enum-told : tie.Need-enum-told Inv-loop μ-loop
-enum-told c = c .match .keys1
-
-enum-told-2 : tie.Need-enum-told-2 Inv-loop μ-loop
-enum-told-2 c = c .match .keys2
+enum-known-v : tie.Need-enum-known-v Inv-loop μ-loop
+enum-known-v c = search needs
 
 returns : tie.Need-returns Inv-loop μ-loop
 unfolding verdictOf
 returns c =
-    let l = c .before .before .before .before .before .before .loop in
-    let r = c .before .before .take-hop in
-    refuses _ _ _ _ (l .state) (l .good) (l .inv) (c .before .before .before .if1 .taken) (r .result) (r .ensures) (bad _ (c .before .match .keys2))
+    let l = c .before .before .before .before .before .before .before .loop in
+    let r = c .before .before .before .take-hop in
+    let v = c .before .v .given in
+    refuses _ _ _ _ (l .state) (l .good) (l .inv) (c .before .before .before .before .if1 .taken) (r .result) (r .ensures) (v .0 .0) (v .0 .1 .0) (v .1)
+
+enum-told : tie.Need-enum-told Inv-loop μ-loop
+enum-told c = search needs
 
 on : (c : tie.After-state Inv-loop μ-loop) →
     let a = c .before .before .before .before .before .before .before .before .before .args in
@@ -58,7 +46,7 @@ on : (c : tie.After-state Inv-loop μ-loop) →
 on c =
     let l = c .before .before .before .before .before .before .before .loop in
     let r = c .before .before .before .take-hop in
-    goes-on _ _ _ _ (l .state) (l .good) (l .inv) (c .before .before .before .before .if1 .taken) (r .result) (r .ensures) (good _ (c .before .before .match .keys1))
+    goes-on _ _ _ _ (l .state) (l .good) (l .inv) (c .before .before .before .before .if1 .taken) (r .result) (r .ensures) (c .before .enum-told .given .1)
 
 add-good : tie.Need-add-good Inv-loop μ-loop
 add-good c = let s = c .before .before .before .before .before .before .before .loop .inv in record { fits = omega (arith, s .few, s .high) }
@@ -92,9 +80,9 @@ follow-spec =
     μ-loop
     loop-holds
     take-hop-requires
-    enum-told
-    enum-told-2
+    enum-known-v
     returns
+    enum-told
     add-good
     loop-less
     loop-again

@@ -23,7 +23,7 @@ by-tag EntryTooLong = refl
 by-tag NoSuchElement = refl
 by-tag WrongLength = refl
 by-tag OtherEntry = refl
-by-tag (LinkDiffers hops) = refl
+by-tag (LinkDiffers hops element level) = refl
 by-tag (DigestDiffers hops) = refl
 
 not-first : (k : ℕ) → OneOf (1 ∷ 2 ∷ 3 ∷ 4 ∷ 5 ∷ 6 ∷ []) k → k ≢ 0

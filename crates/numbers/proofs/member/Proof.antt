@@ -1,4 +1,4 @@
--- `numbers::member` meets its contract: each verdict has the number and the hops that 01 gives it.
+-- `numbers::member` meets its contract: each verdict has the number and the hops that 01 gives it, and its place.
 use borrow.Author.Needs.{needs}
 use Rattle.membership.specs.Verdicts.{verdictOf}
 use Rattle.numbers.proofs.member.Statement.{statement}
@@ -37,14 +37,11 @@ say-requires-5 c κs = search needs
 enum-known-v-2 : tie.Need-enum-known-v-2
 enum-known-v-2 c = search needs
 
-say-requires-6 : tie.Need-say-requires-6
-say-requires-6 c κs = search needs
-
 enum-known-v-3 : tie.Need-enum-known-v-3
 enum-known-v-3 c = search needs
 
-say-requires-7 : tie.Need-say-requires-7
-say-requires-7 c κs = search needs
+say-requires-6 : tie.Need-say-requires-6
+say-requires-6 c κs = search needs
 
 returns : tie.Need-returns
 unfolding verdictOf
@@ -89,9 +86,8 @@ member-spec =
     enum-told-4
     say-requires-5
     enum-known-v-2
-    say-requires-6
     enum-known-v-3
-    say-requires-7
+    say-requires-6
     returns
     returns-2
     returns-3

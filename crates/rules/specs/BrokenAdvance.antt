@@ -1,0 +1,189 @@
+-- WHERE AN ADVANCEMENT BROKE (02, A5), for any hash H: the place that stands beside 9 and 10 is true, and no other answer of the check shows one.
+use mathlib.Core.Path.{_≡_, refl, sym, ap, _∙_}
+use mathlib.Core.Logic.{_≢_}
+use mathlib.Core.Bool.{Bool, true, false}
+use mathlib.Core.List.{List, [], _∷_}
+use Prim.Native.Nat.{ℕ, zero, suc, _+_, _-_, _/_, _^_, _≤_, _<_}
+use native.Mathlib.Nat.{add-zero, zero-add, div-div-eq-div-mul}
+use native.Mathlib.Omega.{arith}
+use lib.Dec.{eqb, lit≤}
+use lib.Pow.{pow-add}
+use lib.ListN.{length, getD, drop}
+use lib.Seq.{getD-drop}
+use Rattle.lists.specs.Bytes.{Bytes, same}
+use Rattle.lists.specs.Same.{same-true, same-false}
+use Rattle.rules.specs.Numbers.{Version}
+use Rattle.rules.specs.Paths.{hops, path, pathAfter}
+use Rattle.rules.specs.Messages.{size, total, row, part}
+use Rattle.rules.specs.Refusals.{stateBroken, noSuchNumber, wrongLength, rowDiffers, linkDiffers, digestDiffers}
+use Rattle.rules.specs.Held.{Held, odd, inOrder}
+use Rattle.rules.specs.Checking.{Place, place, nowhere, Verdict, accepted, refused, mustAt, must, upward, agrees, offRow, hopped, advanceWalk, advance}
+use Rattle.rules.specs.Calls.{advanceAnswer, advanceCall}
+use Rattle.rules.specs.Carrying.{Off, off-row}
+use Rattle.rules.specs.Broken.{Refuses, own, later, refuses, From, before, walking, peel, at-end, Breaks, breaks-map, breaks-none}
+
+-- where a walk stands: what is held, and where the next component begins
+pub record Stage : Type 0 where
+  pub held : Held
+  pub next : ℕ
+
+module _ (H : Bytes → Bytes) (v : Version) (p : Bytes) where
+  -- a hop of level l: the element that it reaches, its component, and where the walk stands then
+  abbrev pub reached : Stage → ℕ → ℕ
+  reached s l = s .held .count + 2 ^ l
+
+  abbrev pub there : Stage → ℕ → Bytes
+  there s l = part v p (s .next) (reached s l)
+
+  abbrev pub passed : Stage → ℕ → Stage
+  passed s l = record { held = hopped H v (s .held) l p (s .next); next = s .next + size v (reached s l) }
+
+  abbrev pub RowsAgree : Stage → ℕ → Bool
+  RowsAgree s l = agrees v l (s .held .count / 2 ^ l) (drop l (s .held .rows)) (there s l)
+
+  -- a good one
+  abbrev pub Agreed : Stage → ℕ → Type 0
+  Agreed s l = (RowsAgree s l ≡ true) × (row v (there s l) (suc l) ≡ s .held .digest)
+
+  -- a bad one by its rows, at the place w: the element reached, and the lowest row, from the level hopped up, that is not the component's link of the
+  -- next level; it is in use, and so is each row that was compared before it
+  pub record RowOff (w : Place) (s : Stage) (l : ℕ) : Type 0 where
+    pub element : w .element ≡ reached s l
+    pub high : l ≤ w .level
+    pub used : (c : ℕ) → l ≤ c → c ≤ w .level → odd (s .held .count / 2 ^ c) ≡ true
+    pub differs : getD (s .held .rows) (w .level) [] ≢ row v (there s l) (suc (suc (w .level)))
+    pub lowest : (c : ℕ) → l ≤ c → c < w .level → getD (s .held .rows) c [] ≡ row v (there s l) (suc (suc c))
+
+  -- a bad one by its link, at the place w: the element reached and the level hopped; its rows are good
+  pub record DigestOff (w : Place) (s : Stage) (l : ℕ) : Type 0 where
+    pub named : w ≡ place (reached s l) l
+    pub rows : RowsAgree s l ≡ true
+    pub differs : row v (there s l) (suc l) ≢ s .held .digest
+
+  abbrev pub AdvanceBreaks : (Stage → ℕ → Type 0) → Stage → List ℕ → ℕ → Type 0
+  AdvanceBreaks Bad = Breaks passed Agreed Bad
+
+  -- what is known of the row named, in the rows that are held
+  row-off : (s : Stage) (l : ℕ) → RowsAgree s l ≡ false → RowOff (place (reached s l) (offRow v l (drop l (s .held .rows)) (there s l))) s l
+  row-off s l e =
+      let rs = s .held .rows in
+      let f = off-row v (there s l) (drop l rs) l (s .held .count / 2 ^ l) e in
+      rw (f .1) (record {
+        element = refl;
+        high = omega arith;
+        used = λ c lo hi. bit c lo (f .2 .used (c - l) (omega arith));
+        differs = λ d. f .2 .differs (getD-drop l rs (f .0) [] ∙ d);
+        lowest = λ c lo hi.
+            let t : l + (c - l) ≡ c = omega arith in
+            ap (λ (x : ℕ). getD rs x []) (sym t)
+            ∙ sym (getD-drop l rs (c - l) [])
+            ∙ f .2 .before (c - l) (omega arith)
+            ∙ ap (λ (x : ℕ). row v (there s l) (suc (suc x))) t;
+      })
+    where
+      -- bit c of the count, counted from the level hopped
+      bit : (c : ℕ) → l ≤ c → odd (s .held .count / 2 ^ l / 2 ^ (c - l)) ≡ true → odd (s .held .count / 2 ^ c) ≡ true
+      bit c lo o =
+          let t : l + (c - l) ≡ c = omega arith in
+          ap (λ (x : ℕ). odd (s .held .count / 2 ^ x)) (sym t)
+          ∙ ap (λ (x : ℕ). odd (s .held .count / x)) (pow-add 2 l (c - l))
+          ∙ ap odd (sym (div-div-eq-div-mul (s .held .count) (2 ^ l) (2 ^ (c - l))))
+          ∙ o
+
+  -- a bad one, refused with the number of what is bad
+  data BadHop (num : ℕ) (w : Place) (s : Stage) (l : ℕ) : Type 0 where
+    by-row : num ≡ rowDiffers → RowOff w s l → BadHop num w s l
+    by-link : num ≡ linkDiffers → DigestOff w s l → BadHop num w s l
+
+  -- what a walk that is refused comes to: the last digest, which shows no place, or a bad hop behind good ones
+  data Ends (num : ℕ) (w : Place) (s : Stage) (ls : List ℕ) (k m : ℕ) : Type 0 where
+    last : num ≡ digestDiffers → w ≡ nowhere → Ends num w s ls k m
+    bad : (d : ℕ) → m ≡ k + d → AdvanceBreaks (BadHop num w) s ls d → Ends num w s ls k m
+
+  walk-ends : (ls : List ℕ) (s : Stage) (D : Bytes) (k num m : ℕ) (w : Place) → advanceWalk H v (s .held) ls p (s .next) D k ≡ refused num m w → Ends num w s ls k m
+  unfolding advanceWalk Breaks
+  walk-ends [] s D k num m w e = let f = at-end (same (s .held .digest) D) k (k, s .held) num m w e in last (sym (f .0)) (f .1)
+  walk-ends (l ∷ ls) s D k num m w e = rows (refuses (place (reached s l) off) (RowsAgree s l) rowDiffers k linked num m w e) (walk-ends ls (passed s l) D (suc k) num m w)
+    where
+      off : ℕ
+      off = offRow v l (drop l (s .held .rows)) (there s l)
+
+      rest : Verdict (ℕ × Held)
+      rest = advanceWalk H v (passed s l .held) ls p (passed s l .next) D (suc k)
+
+      linked : Verdict (ℕ × Held)
+      linked = mustAt (place (reached s l) l) (same (row v (there s l) (suc l)) (s .held .digest)) linkDiffers k rest
+
+      on : Agreed s l → Ends num w (passed s l) ls (suc k) m → Ends num w s (l ∷ ls) k m
+      on g (last en ew) = last en ew
+      on g (bad d em f) = bad (suc d) (omega (arith, em)) (g, f)
+
+      link : RowsAgree s l ≡ true → Refuses (place (reached s l) l) (same (row v (there s l) (suc l)) (s .held .digest)) linkDiffers k rest num m w
+          → (rest ≡ refused num m w → Ends num w (passed s l) ls (suc k) m) → Ends num w s (l ∷ ls) k m
+      link r (own f en ek ew) ih = bad 0 (sym ek ∙ sym (add-zero k)) (by-link (sym en) (record { named = sym ew; rows = r; differs = same-false _ _ f }))
+      link r (later t f) ih = on (r, same-true _ _ t) (ih f)
+
+      rows : Refuses (place (reached s l) off) (RowsAgree s l) rowDiffers k linked num m w
+          → (rest ≡ refused num m w → Ends num w (passed s l) ls (suc k) m) → Ends num w s (l ∷ ls) k m
+      rows (own f en ek ew) ih = bad 0 (sym ek ∙ sym (add-zero k)) (by-row (sym en) (rw (← ew) (row-off s l f)))
+      rows (later t f) ih = link t (refuses (place (reached s l) l) (same (row v (there s l) (suc l)) (s .held .digest)) linkDiffers k rest num m w f) ih
+
+  -- where a walk begins: with the state held, at the first component
+  abbrev pub begins : Held → Stage
+  begins h = record { held = h; next = 0 }
+
+  module _ (h : Held) (n : ℕ) (D : Bytes) where
+    advance-from : (num k : ℕ) (w : Place) → advance H v h n D p ≡ refused num k w → From num w (Ends num w (begins h) (hops (h .count) n) 0 k)
+    unfolding advance
+    advance-from num k w =
+        peel (inOrder H v h) stateBroken 0 _ num k w (lit≤ tt)
+        (peel (upward v (h .count) n) noSuchNumber 0 _ num k w (lit≤ tt)
+        (peel (eqb (length p) (total v (pathAfter (h .count) n))) wrongLength 0 _ num k w (lit≤ tt)
+        (λ f. walking (walk-ends (hops (h .count) n) (begins h) D 0 num k w f))))
+
+    -- a bad hop of which more is known by the number that it is refused with
+    broke : (num k : ℕ) (w : Place) (X : Stage → ℕ → Type 0) → rowDiffers ≤ num → num ≢ digestDiffers → ((s : Stage) (l : ℕ) → BadHop num w s l → X s l)
+        → advance H v h n D p ≡ refused num k w → AdvanceBreaks X (begins h) (hops (h .count) n) k
+    broke num k w X low ne f e = go (advance-from num k w e)
+      where
+        go : From num w (Ends num w (begins h) (hops (h .count) n) 0 k) → AdvanceBreaks X (begins h) (hops (h .count) n) k
+        go (before b x) = absurd (omega arith)
+        go (walking (last x y)) = absurd (ne x)
+        go (walking (bad d em g)) = rw (em ∙ zero-add d) (breaks-map passed Agreed (BadHop num w) X f (hops (h .count) n) (begins h) d g)
+
+    -- WHERE AN ADVANCEMENT BROKE: beside 9 with k hops, the first k hops of the path are good, and of the rows that the one after them passes the lowest
+    -- that differs is the one named, at the element that it reaches;
+    pub advance-row-broke : (k : ℕ) (w : Place) → advance H v h n D p ≡ refused rowDiffers k w → AdvanceBreaks (RowOff w) (begins h) (hops (h .count) n) k
+    advance-row-broke k w = broke rowDiffers k w (RowOff w) (lit≤ tt) (λ z. omega arith) only
+      where
+        only : (s : Stage) (l : ℕ) → BadHop rowDiffers w s l → RowOff w s l
+        only s l (by-row e f) = f
+        only s l (by-link e f) = absurd (omega arith)
+
+    -- beside 10, the rows that it passes are good and its link is not the digest held; the place is the element that it reaches, and its level.
+    pub advance-link-broke : (k : ℕ) (w : Place) → advance H v h n D p ≡ refused linkDiffers k w → AdvanceBreaks (DigestOff w) (begins h) (hops (h .count) n) k
+    advance-link-broke k w = broke linkDiffers k w (DigestOff w) (lit≤ tt) (λ z. omega arith) only
+      where
+        only : (s : Stage) (l : ℕ) → BadHop linkDiffers w s l → DigestOff w s l
+        only s l (by-row e f) = absurd (omega arith)
+        only s l (by-link e f) = f
+
+    -- ALL OTHER ANSWERS of the check show no place.
+    pub advance-bare : advanceCall H v h n D p .answer .number ≢ rowDiffers → advanceCall H v h n D p .answer .number ≢ linkDiffers
+        → advanceCall H v h n D p .answer .place ≡ nowhere
+    advance-bare = go (advance H v h n D p) refl
+      where
+        never : (num : ℕ) (w : Place) → num ≢ rowDiffers → num ≢ linkDiffers → (s : Stage) (l : ℕ) → BadHop num w s l → ⊥
+        never num w a b s l (by-row e f) = a e
+        never num w a b s l (by-link e f) = b e
+
+        shown : (num k : ℕ) (w : Place) → num ≢ rowDiffers → num ≢ linkDiffers → From num w (Ends num w (begins h) (hops (h .count) n) 0 k) → w ≡ nowhere
+        shown num k w a b (before low f) = f
+        shown num k w a b (walking (last x f)) = f
+        shown num k w a b (walking (bad d em g)) =
+            absurd (breaks-none passed Agreed (hops (h .count) n) (begins h) d (breaks-map passed Agreed (BadHop num w) (λ s l. ⊥) (never num w a b) (hops (h .count) n) (begins h) d g))
+
+        go : (x : Verdict (ℕ × Held)) → advance H v h n D p ≡ x → advanceAnswer h x .answer .number ≢ rowDiffers → advanceAnswer h x .answer .number ≢ linkDiffers
+            → advanceAnswer h x .answer .place ≡ nowhere
+        go (accepted m) f a b = refl
+        go (refused num k w) f a b = shown num k w a b (advance-from num k w f)
