@@ -8,7 +8,7 @@ use native.Mathlib.Nat.{add-zero, zero-add, div-div-eq-div-mul}
 use native.Mathlib.Omega.{arith}
 use lib.Dec.{eqb, lit≤}
 use lib.Pow.{pow-add}
-use lib.ListN.{length, getD, drop}
+use lib.ListN.{length, getD, drop, length-drop}
 use lib.Seq.{getD-drop}
 use Rattle.lists.specs.Bytes.{Bytes, same}
 use Rattle.lists.specs.Same.{same-true, same-false}
@@ -50,6 +50,7 @@ module _ (H : Bytes → Bytes) (v : Version) (p : Bytes) where
   pub record RowOff (w : Place) (s : Stage) (l : ℕ) : Type 0 where
     pub element : w .element ≡ reached s l
     pub high : l ≤ w .level
+    pub among : w .level < length (s .held .rows)
     pub used : (c : ℕ) → l ≤ c → c ≤ w .level → odd (s .held .count / 2 ^ c) ≡ true
     pub differs : getD (s .held .rows) (w .level) [] ≢ row v (there s l) (suc (suc (w .level)))
     pub lowest : (c : ℕ) → l ≤ c → c < w .level → getD (s .held .rows) c [] ≡ row v (there s l) (suc (suc c))
@@ -71,6 +72,7 @@ module _ (H : Bytes → Bytes) (v : Version) (p : Bytes) where
       rw (f .1) (record {
         element = refl;
         high = omega arith;
+        among = let h = rw length-drop at (f .2 .there) in omega arith;
         used = λ c lo hi. bit c lo (f .2 .used (c - l) (omega arith));
         differs = λ d. f .2 .differs (getD-drop l rs (f .0) [] ∙ d);
         lowest = λ c lo hi.
