@@ -1,5 +1,5 @@
 -- WHERE AN ADVANCEMENT BROKE, from the contract of `check_advancement` alone.
-use mathlib.Core.Path.{_≡_, refl, sym, ap, _∙_}
+use mathlib.Core.Path.{_≡_, sym, ap, _∙_}
 use Prim.Native.Nat.{ℕ, _≤_}
 use native.Mathlib.Omega.{arith}
 use lib.Dec.{lit≤}
@@ -16,7 +16,6 @@ use Rattle.rules.specs.Calls as calls
 use Rattle.rules.specs.BrokenAdvance.{AdvanceBreaks, RowOff, DigestOff, begins, advance-row-broke, advance-link-broke}
 use Rattle.held.specs.declared.Held.{Held}
 use Rattle.held.specs.Holding.{holds}
-use Rattle.advancement.specs.declared.Advance.{Advance}
 use Rattle.advancement.specs.declared.Advance.the-variants.{RowDiffers, LinkDiffers}
 use Rattle.advancement.specs.declared.Advanced.{Advanced}
 use Rattle.advancement.specs.Advancing.{answerOf}

@@ -3,7 +3,7 @@ use mathlib.Core.Path.{_≡_, refl, sym, ap, _∙_}
 use mathlib.Core.Logic.{_≢_}
 use mathlib.Core.Bool.{Bool, true, false}
 use mathlib.Core.List.{List, [], _∷_}
-use Prim.Native.Nat.{ℕ, zero, suc, _+_, _-_, _/_, _^_, _≤_, _<_}
+use Prim.Native.Nat.{ℕ, suc, _+_, _-_, _/_, _^_, _≤_, _<_}
 use native.Mathlib.Nat.{add-zero, zero-add, div-div-eq-div-mul}
 use native.Mathlib.Omega.{arith}
 use lib.Dec.{eqb, lit≤}
@@ -13,14 +13,14 @@ use lib.Seq.{getD-drop}
 use Rattle.lists.specs.Bytes.{Bytes, same}
 use Rattle.lists.specs.Same.{same-true, same-false}
 use Rattle.rules.specs.Numbers.{Version}
-use Rattle.rules.specs.Paths.{hops, path, pathAfter}
+use Rattle.rules.specs.Paths.{hops, pathAfter}
 use Rattle.rules.specs.Messages.{size, total, row, part}
-use Rattle.rules.specs.Refusals.{stateBroken, noSuchNumber, wrongLength, rowDiffers, linkDiffers, digestDiffers}
+use Rattle.rules.specs.Refusals.{stateBroken, noSuchNumber, wrongLength, rowDiffers, linkDiffers}
 use Rattle.rules.specs.Held.{Held, odd, inOrder}
-use Rattle.rules.specs.Checking.{Place, place, nowhere, Verdict, accepted, refused, mustAt, must, upward, agrees, offRow, hopped, advanceWalk, advance}
+use Rattle.rules.specs.Checking.{Place, place, nowhere, Verdict, accepted, refused, mustAt, upward, agrees, offRow, hopped, advanceWalk, advance}
 use Rattle.rules.specs.Calls.{advanceAnswer, advanceCall}
-use Rattle.rules.specs.Carrying.{Off, off-row}
-use Rattle.rules.specs.Broken.{Refuses, own, later, refuses, From, before, walking, peel, at-end, Breaks, breaks-map, breaks-none}
+use Rattle.rules.specs.Carrying.{off-row}
+use Rattle.rules.specs.Broken.{Refuses, own, later, refuses, From, before, walking, peel, at-end, Breaks, Ends, last, bad}
 
 -- where a walk stands: what is held, and where the next component begins
 pub record Stage : Type 0 where
@@ -92,17 +92,13 @@ module _ (H : Bytes → Bytes) (v : Version) (p : Bytes) where
           ∙ ap odd (sym (div-div-eq-div-mul (s .held .count) (2 ^ l) (2 ^ (c - l))))
           ∙ o
 
-  -- a bad one, refused with the number of what is bad
-  data BadHop (num : ℕ) (w : Place) (s : Stage) (l : ℕ) : Type 0 where
-    by-row : num ≡ rowDiffers → RowOff w s l → BadHop num w s l
-    by-link : num ≡ linkDiffers → DigestOff w s l → BadHop num w s l
+  -- what a walk that is refused at a bad hop broke by
+  data Broke (num : ℕ) (w : Place) (s : Stage) (ls : List ℕ) (d : ℕ) : Type 0 where
+    by-row : num ≡ rowDiffers → AdvanceBreaks (RowOff w) s ls d → Broke num w s ls d
+    by-link : num ≡ linkDiffers → AdvanceBreaks (DigestOff w) s ls d → Broke num w s ls d
 
-  -- what a walk that is refused comes to: the last digest, which shows no place, or a bad hop behind good ones
-  data Ends (num : ℕ) (w : Place) (s : Stage) (ls : List ℕ) (k m : ℕ) : Type 0 where
-    last : num ≡ digestDiffers → w ≡ nowhere → Ends num w s ls k m
-    bad : (d : ℕ) → m ≡ k + d → AdvanceBreaks (BadHop num w) s ls d → Ends num w s ls k m
-
-  walk-ends : (ls : List ℕ) (s : Stage) (D : Bytes) (k num m : ℕ) (w : Place) → advanceWalk H v (s .held) ls p (s .next) D k ≡ refused num m w → Ends num w s ls k m
+  walk-ends : (ls : List ℕ) (s : Stage) (D : Bytes) (k num m : ℕ) (w : Place) → advanceWalk H v (s .held) ls p (s .next) D k ≡ refused num m w
+      → Ends (Broke num w s ls) num w k m
   unfolding advanceWalk Breaks
   walk-ends [] s D k num m w e = let f = at-end (same (s .held .digest) D) k (k, s .held) num m w e in last (sym (f .0)) (f .1)
   walk-ends (l ∷ ls) s D k num m w e = rows (refuses (place (reached s l) off) (RowsAgree s l) rowDiffers k linked num m w e) (walk-ends ls (passed s l) D (suc k) num m w)
@@ -116,17 +112,18 @@ module _ (H : Bytes → Bytes) (v : Version) (p : Bytes) where
       linked : Verdict (ℕ × Held)
       linked = mustAt (place (reached s l) l) (same (row v (there s l) (suc l)) (s .held .digest)) linkDiffers k rest
 
-      on : Agreed s l → Ends num w (passed s l) ls (suc k) m → Ends num w s (l ∷ ls) k m
+      on : Agreed s l → Ends (Broke num w (passed s l) ls) num w (suc k) m → Ends (Broke num w s (l ∷ ls)) num w k m
       on g (last en ew) = last en ew
-      on g (bad d em f) = bad (suc d) (omega (arith, em)) (g, f)
+      on g (bad d em (by-row en f)) = bad (suc d) (omega (arith, em)) (by-row en (g, f))
+      on g (bad d em (by-link en f)) = bad (suc d) (omega (arith, em)) (by-link en (g, f))
 
       link : RowsAgree s l ≡ true → Refuses (place (reached s l) l) (same (row v (there s l) (suc l)) (s .held .digest)) linkDiffers k rest num m w
-          → (rest ≡ refused num m w → Ends num w (passed s l) ls (suc k) m) → Ends num w s (l ∷ ls) k m
+          → (rest ≡ refused num m w → Ends (Broke num w (passed s l) ls) num w (suc k) m) → Ends (Broke num w s (l ∷ ls)) num w k m
       link r (own f en ek ew) ih = bad 0 (sym ek ∙ sym (add-zero k)) (by-link (sym en) (record { named = sym ew; rows = r; differs = same-false _ _ f }))
       link r (later t f) ih = on (r, same-true _ _ t) (ih f)
 
       rows : Refuses (place (reached s l) off) (RowsAgree s l) rowDiffers k linked num m w
-          → (rest ≡ refused num m w → Ends num w (passed s l) ls (suc k) m) → Ends num w s (l ∷ ls) k m
+          → (rest ≡ refused num m w → Ends (Broke num w (passed s l) ls) num w (suc k) m) → Ends (Broke num w s (l ∷ ls)) num w k m
       rows (own f en ek ew) ih = bad 0 (sym ek ∙ sym (add-zero k)) (by-row (sym en) (rw (← ew) (row-off s l f)))
       rows (later t f) ih = link t (refuses (place (reached s l) l) (same (row v (there s l) (suc l)) (s .held .digest)) linkDiffers k rest num m w f) ih
 
@@ -135,57 +132,51 @@ module _ (H : Bytes → Bytes) (v : Version) (p : Bytes) where
   begins h = record { held = h; next = 0 }
 
   module _ (h : Held) (n : ℕ) (D : Bytes) where
-    advance-from : (num k : ℕ) (w : Place) → advance H v h n D p ≡ refused num k w → From num w (Ends num w (begins h) (hops (h .count) n) 0 k)
+    -- what a refusal of the check comes from
+    abbrev Cause : ℕ → ℕ → Place → Type 0
+    Cause num k w = From num w (Ends (Broke num w (begins h) (hops (h .count) n)) num w 0 k)
+
+    caused : (num k : ℕ) (w : Place) → advance H v h n D p ≡ refused num k w → Cause num k w
     unfolding advance
-    advance-from num k w =
+    caused num k w =
         peel (inOrder H v h) stateBroken 0 _ num k w (lit≤ tt)
         (peel (upward v (h .count) n) noSuchNumber 0 _ num k w (lit≤ tt)
         (peel (eqb (length p) (total v (pathAfter (h .count) n))) wrongLength 0 _ num k w (lit≤ tt)
         (λ f. walking (walk-ends (hops (h .count) n) (begins h) D 0 num k w f))))
 
-    -- a bad hop of which more is known by the number that it is refused with
-    broke : (num k : ℕ) (w : Place) (X : Stage → ℕ → Type 0) → rowDiffers ≤ num → num ≢ digestDiffers → ((s : Stage) (l : ℕ) → BadHop num w s l → X s l)
-        → advance H v h n D p ≡ refused num k w → AdvanceBreaks X (begins h) (hops (h .count) n) k
-    broke num k w X low ne f e = go (advance-from num k w e)
-      where
-        go : From num w (Ends num w (begins h) (hops (h .count) n) 0 k) → AdvanceBreaks X (begins h) (hops (h .count) n) k
-        go (before b x) = absurd (omega arith)
-        go (walking (last x y)) = absurd (ne x)
-        go (walking (bad d em g)) = rw (em ∙ zero-add d) (breaks-map passed Agreed (BadHop num w) X f (hops (h .count) n) (begins h) d g)
-
     -- WHERE AN ADVANCEMENT BROKE: beside 9 with k hops, the first k hops of the path are good, and of the rows that the one after them passes the lowest
     -- that differs is the one named, at the element that it reaches;
     pub advance-row-broke : (k : ℕ) (w : Place) → advance H v h n D p ≡ refused rowDiffers k w → AdvanceBreaks (RowOff w) (begins h) (hops (h .count) n) k
-    advance-row-broke k w = broke rowDiffers k w (RowOff w) (lit≤ tt) (λ z. omega arith) only
+    advance-row-broke k w e = go (caused rowDiffers k w e)
       where
-        only : (s : Stage) (l : ℕ) → BadHop rowDiffers w s l → RowOff w s l
-        only s l (by-row e f) = f
-        only s l (by-link e f) = absurd (omega arith)
+        go : Cause rowDiffers k w → AdvanceBreaks (RowOff w) (begins h) (hops (h .count) n) k
+        go (before low f) = absurd (omega arith)
+        go (walking (last en f)) = absurd (omega arith)
+        go (walking (bad d em (by-row en f))) = rw (em ∙ zero-add d) f
+        go (walking (bad d em (by-link en f))) = absurd (omega arith)
 
     -- beside 10, the rows that it passes are good and its link is not the digest held; the place is the element that it reaches, and its level.
     pub advance-link-broke : (k : ℕ) (w : Place) → advance H v h n D p ≡ refused linkDiffers k w → AdvanceBreaks (DigestOff w) (begins h) (hops (h .count) n) k
-    advance-link-broke k w = broke linkDiffers k w (DigestOff w) (lit≤ tt) (λ z. omega arith) only
+    advance-link-broke k w e = go (caused linkDiffers k w e)
       where
-        only : (s : Stage) (l : ℕ) → BadHop linkDiffers w s l → DigestOff w s l
-        only s l (by-row e f) = absurd (omega arith)
-        only s l (by-link e f) = f
+        go : Cause linkDiffers k w → AdvanceBreaks (DigestOff w) (begins h) (hops (h .count) n) k
+        go (before low f) = absurd (omega arith)
+        go (walking (last en f)) = absurd (omega arith)
+        go (walking (bad d em (by-row en f))) = absurd (omega arith)
+        go (walking (bad d em (by-link en f))) = rw (em ∙ zero-add d) f
 
     -- ALL OTHER ANSWERS of the check show no place.
     pub advance-bare : advanceCall H v h n D p .answer .number ≢ rowDiffers → advanceCall H v h n D p .answer .number ≢ linkDiffers
         → advanceCall H v h n D p .answer .place ≡ nowhere
     advance-bare = go (advance H v h n D p) refl
       where
-        never : (num : ℕ) (w : Place) → num ≢ rowDiffers → num ≢ linkDiffers → (s : Stage) (l : ℕ) → BadHop num w s l → ⊥
-        never num w a b s l (by-row e f) = a e
-        never num w a b s l (by-link e f) = b e
-
-        shown : (num k : ℕ) (w : Place) → num ≢ rowDiffers → num ≢ linkDiffers → From num w (Ends num w (begins h) (hops (h .count) n) 0 k) → w ≡ nowhere
+        shown : (num k : ℕ) (w : Place) → num ≢ rowDiffers → num ≢ linkDiffers → Cause num k w → w ≡ nowhere
         shown num k w a b (before low f) = f
-        shown num k w a b (walking (last x f)) = f
-        shown num k w a b (walking (bad d em g)) =
-            absurd (breaks-none passed Agreed (hops (h .count) n) (begins h) d (breaks-map passed Agreed (BadHop num w) (λ s l. ⊥) (never num w a b) (hops (h .count) n) (begins h) d g))
+        shown num k w a b (walking (last en f)) = f
+        shown num k w a b (walking (bad d em (by-row en f))) = absurd (a en)
+        shown num k w a b (walking (bad d em (by-link en f))) = absurd (b en)
 
         go : (x : Verdict (ℕ × Held)) → advance H v h n D p ≡ x → advanceAnswer h x .answer .number ≢ rowDiffers → advanceAnswer h x .answer .number ≢ linkDiffers
             → advanceAnswer h x .answer .place ≡ nowhere
         go (accepted m) f a b = refl
-        go (refused num k w) f a b = shown num k w a b (advance-from num k w f)
+        go (refused num k w) f a b = shown num k w a b (caused num k w f)
