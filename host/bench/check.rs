@@ -1,12 +1,13 @@
 //! Times checking 1,000 membership proofs of a log of 1,000 elements beside a plain Rust checker that
-//! does the same work: the same checks in the same order on the same bytes.
+//! does the same work: the same checks in the same order on the same bytes, with the same answers. So
+//! they are compared first, on each proof and on it with one byte changed.
 //!
 //! Both are compiled for release and for the same processor (`host/env.sh`). Each element of the log
 //! is checked once in a round; no buffer is cleared between the calls.
 
 mod timing;
 
-use lotlog::Digest;
+use lotlog::{Answer, Digest};
 use second::hash::Sha256;
 use second::store::store_of;
 use timing::way;
@@ -52,19 +53,23 @@ fn proof_size(i: u64, n: u64) -> usize {
     bytes
 }
 
-/// The number and the hops of a plain check.
-fn plain_check(entry: &[u8], i: u64, n: u64, digest: &Digest, proof: &[u8]) -> (u64, u64) {
+fn refused(number: u64) -> Answer {
+    Answer { number, beside: [0; 3] }
+}
+
+/// A plain check: the number, the hops, and with 10 the element reached and the level hopped.
+fn plain_check(entry: &[u8], i: u64, n: u64, digest: &Digest, proof: &[u8]) -> Answer {
     if entry.len() > ENTRY_LIMIT {
-        return (3, 0);
+        return refused(3);
     }
     if i == 0 || i > n || n > LIMIT {
-        return (4, 0);
+        return refused(4);
     }
     if proof.len() != proof_size(i, n) {
-        return (7, 0);
+        return refused(7);
     }
     if proof[..32] != entry_digest(entry) {
-        return (8, 0);
+        return refused(8);
     }
     let mut at = size(i);
     let mut known = element(i, &proof[..at]);
@@ -75,16 +80,22 @@ fn plain_check(entry: &[u8], i: u64, n: u64, digest: &Digest, proof: &[u8]) -> (
         let component = &proof[at..at + size(j)];
         let link = 32 * (l as usize + 1);
         if component[link..link + 32] != known {
-            return (10, hops);
+            return Answer { number: 10, beside: [hops, j, l.into()] };
         }
         known = element(j, component);
         at += size(j);
         hops += 1;
     }
-    if known == *digest {
-        (0, hops)
-    } else {
-        (11, hops)
+    Answer { number: if known == *digest { 0 } else { 11 }, beside: [hops, 0, 0] }
+}
+
+/// Both checkers answer alike, on the proof and on it with one byte changed.
+fn alike(entry: &[u8], i: u64, digest: &Digest, proof: &[u8]) {
+    let mut changed = proof.to_vec();
+    changed[37 * i as usize % proof.len()] ^= 1;
+    for proof in [proof, &changed] {
+        let ours = lotlog::check_membership(entry, i, LOG, digest, proof);
+        assert_eq!(ours, plain_check(entry, i, LOG, digest, proof), "element {}", i);
     }
 }
 
@@ -111,13 +122,10 @@ fn main() {
     };
     let plain_all = || {
         for ((entry, proof), i) in asked() {
-            assert_eq!(plain_check(entry, i, LOG, &digest, proof).0, 0);
+            assert_eq!(plain_check(entry, i, LOG, &digest, proof).number, 0);
         }
     };
-    for ((entry, proof), i) in asked() {
-        let ours = lotlog::check_membership(entry, i, LOG, &digest, proof);
-        assert_eq!((ours.number, ours.beside[0]), plain_check(entry, i, LOG, &digest, proof));
-    }
+    asked().for_each(|((entry, proof), i)| alike(entry, i, &digest, proof));
     let [ours, plain] = timing::side_by_side(ROUNDS, 1, [way(proved_all), way(plain_all)]);
     println!("{} proofs of {} bytes in all, entries of {} bytes", LOG, bytes, entries[0].len());
     println!("{:>12} {:>12} {:>7}", "proved ms", "plain ms", "ratio");

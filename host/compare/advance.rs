@@ -13,8 +13,9 @@ use crate::both::Both;
 use crate::calls::AdvanceCalls;
 use crate::damage::bit_turned;
 use crate::logs::{entry, first_records, read, sound, LOG};
+use crate::places;
 use crate::random::Random;
-use crate::second_calls::held_bytes;
+use crate::second_calls::{held_bytes, Second};
 use crate::Scale;
 
 const SEED: u64 = 3;
@@ -24,8 +25,8 @@ const SMALL: u64 = 40;
 
 /// Where the parts of a held state's 688 bytes begin.
 const COUNT: usize = 8;
-const DIGEST: usize = 16;
-const BASIS: usize = 48;
+pub const DIGEST: usize = 16;
+pub const BASIS: usize = 48;
 
 pub fn run<C: AdvanceCalls>(both: &mut Both<C>, scale: Scale) {
     let mut random = Random::new(SEED);
@@ -35,6 +36,7 @@ pub fn run<C: AdvanceCalls>(both: &mut Both<C>, scale: Scale) {
         walk(both, &store, &mut random);
     }
     one_by_one(both, &store, scale.pick(3_000, 300));
+    places::run::<Step, C, Second>(both, &store, scale);
     if scale == Scale::Full {
         farthest_steps(both, &store, &mut random);
     }
@@ -59,7 +61,7 @@ impl Step {
         Step { held, n, digest: log.digest::<Sha256>(n), proof }
     }
 
-    pub fn check<C: AdvanceCalls>(&self, both: &mut Both<C>) -> (Answer, Held) {
+    pub fn check<C: AdvanceCalls, S: AdvanceCalls>(&self, both: &mut Both<C, S>) -> (Answer, Held) {
         both.check_advancement(&self.held, self.n, &self.digest, &self.proof)
     }
 
@@ -240,7 +242,8 @@ fn changed_element_8<C: AdvanceCalls>(both: &mut Both<C>) {
     let claimed = element_digest::<Sha256>(10, &component);
     let held = held_bytes(&held_of::<Sha256>(&read(&shown), 9));
     let (answer, after) = both.check_advancement(&held, 10, &claimed, &component);
-    assert_eq!(answer, Answer { number: 9, beside: [0; 3] });
+    // 9 is odd: row 0 is in use, and the hop to 10 passes it
+    assert_eq!(answer, Answer { number: 9, beside: [0, 10, 0] });
     assert!(after == held, "the old state");
 }
 

@@ -49,19 +49,22 @@ impl Lent {
     }
 }
 
-/// A library beside the second program, and the number of calls compared so far.
-pub struct Both<C> {
+/// A library beside the second program, the number of calls compared so far, and how many of these
+/// answers were also told beforehand. The harness's own test puts something else in the second
+/// program's place.
+pub struct Both<C, S = Second> {
     pub calls: u64,
-    library: PhantomData<C>,
+    pub told: u64,
+    sides: PhantomData<(C, S)>,
 }
 
-impl<C> Default for Both<C> {
+impl<C, S> Default for Both<C, S> {
     fn default() -> Self {
-        Both { calls: 0, library: PhantomData }
+        Both { calls: 0, told: 0, sides: PhantomData }
     }
 }
 
-impl<C> Both<C> {
+impl<C, S> Both<C, S> {
     /// Counts the call and panics unless both sides answered alike.
     fn agree<T: PartialEq + Debug>(&mut self, ours: T, wanted: T, call: impl Fn() -> String) {
         self.calls += 1;
@@ -132,13 +135,13 @@ impl<C: StoreCalls> Both<C> {
     }
 }
 
-impl<C: MemberCalls> Both<C> {
+impl<C: MemberCalls, S: MemberCalls> Both<C, S> {
     /// Builds into an output of `room` bytes.
     pub fn build_membership(&mut self, store: &[u8], i: u64, n: u64, room: usize) -> Answer {
         let mut wanted = vec![BEFORE; room];
         let mut ours = Lent::of(&wanted);
         let answer = C::build_membership(store, i, n, ours.lend());
-        let wanted_answer = Second::build_membership(store, i, n, &mut wanted);
+        let wanted_answer = S::build_membership(store, i, n, &mut wanted);
         let call = || format!("membership ({}, {}) from {} bytes", i, n, store.len());
         self.agree(answer, wanted_answer, call);
         ours.must_be(&wanted, call);
@@ -154,7 +157,7 @@ impl<C: MemberCalls> Both<C> {
         proof: &[u8],
     ) -> Answer {
         let answer = C::check_membership(entry, i, n, digest, proof);
-        let wanted = Second::check_membership(entry, i, n, digest, proof);
+        let wanted = S::check_membership(entry, i, n, digest, proof);
         self.agree(answer, wanted, || {
             let (length, bytes) = (entry.len(), proof.len());
             format!("check of ({}, {}), entry of {}, proof of {}", i, n, length, bytes)
@@ -174,7 +177,7 @@ impl<C: MemberCalls> Both<C> {
         let [mut first, mut second] = rooms.map(|room| vec![BEFORE; room]);
         let (mut our_first, mut our_second) = (Lent::of(&first), Lent::of(&second));
         let answer = C::dispute(sides, i, n, digest, [our_first.lend(), our_second.lend()]);
-        let wanted = Second::dispute(sides, i, n, digest, [&mut first, &mut second]);
+        let wanted = S::dispute(sides, i, n, digest, [&mut first, &mut second]);
         let call = || format!("dispute over ({}, {}), rooms of {:?}", i, n, rooms);
         self.agree(answer, wanted, call);
         our_first.must_be(&first, call);
@@ -184,7 +187,7 @@ impl<C: MemberCalls> Both<C> {
 
     pub fn differing(&mut self, first: &[u8], second: &[u8], i: u64, n: u64) -> Answer {
         let answer = C::differing(first, second, i, n);
-        let wanted = Second::differing(first, second, i, n);
+        let wanted = S::differing(first, second, i, n);
         self.agree(answer, wanted, || {
             let lengths = (first.len(), second.len());
             format!("differing part for ({}, {}), proofs of {:?}", i, n, lengths)
@@ -193,12 +196,12 @@ impl<C: MemberCalls> Both<C> {
     }
 }
 
-impl<C: AdvanceCalls> Both<C> {
+impl<C: AdvanceCalls, S: AdvanceCalls> Both<C, S> {
     pub fn held_at(&mut self, store: &[u8], at: u64) -> (u64, Held) {
         let mut wanted = [BEFORE; 688];
         let mut ours = Lent::of(&wanted);
         let number = C::held_at(store, at, ours.lend_array());
-        let wanted_number = Second::held_at(store, at, &mut wanted);
+        let wanted_number = S::held_at(store, at, &mut wanted);
         let call = || format!("held state at {} of {} bytes", at, store.len());
         self.agree(number, wanted_number, call);
         ours.must_be(&wanted, call);
@@ -209,7 +212,7 @@ impl<C: AdvanceCalls> Both<C> {
         let mut wanted = [BEFORE; 688];
         let mut ours = Lent::of(&wanted);
         let number = C::held_start(log, ours.lend_array());
-        let wanted_number = Second::held_start(log, &mut wanted);
+        let wanted_number = S::held_start(log, &mut wanted);
         let call = || format!("held state at the start of log {}", log);
         self.agree(number, wanted_number, call);
         ours.must_be(&wanted, call);
@@ -221,7 +224,7 @@ impl<C: AdvanceCalls> Both<C> {
         let mut wanted = vec![BEFORE; room];
         let mut ours = Lent::of(&wanted);
         let answer = C::build_advancement(store, i, n, ours.lend());
-        let wanted_answer = Second::build_advancement(store, i, n, &mut wanted);
+        let wanted_answer = S::build_advancement(store, i, n, &mut wanted);
         let call = || format!("advancement {} to {} from {} bytes", i, n, store.len());
         self.agree(answer, wanted_answer, call);
         ours.must_be(&wanted, call);
@@ -239,7 +242,7 @@ impl<C: AdvanceCalls> Both<C> {
         let mut wanted = *held;
         let mut ours = Lent::of(held);
         let answer = C::check_advancement(ours.lend_array(), n, digest, proof);
-        let wanted_answer = Second::check_advancement(&mut wanted, n, digest, proof);
+        let wanted_answer = S::check_advancement(&mut wanted, n, digest, proof);
         let call = || format!("advancing to {}, proof of {} bytes", n, proof.len());
         self.agree(answer, wanted_answer, call);
         ours.must_be(&wanted, call);

@@ -5,7 +5,8 @@
 //! guard bytes around it. The calls come in groups (`hash`, `store`, `member`, `advance`, `saved`,
 //! `trie`) and all together (`whole`), and a group is a function over any implementation of its
 //! calls. So the second program can be held to itself, and to faulty copies of itself, each of
-//! which a group must notice (`faulty`).
+//! which a group must notice (`faulty`). Where a proof broke is also told beforehand, without the
+//! second program (`places`).
 //!
 //! A difference panics with the call and its arguments.
 
@@ -21,6 +22,7 @@ pub mod hash;
 pub mod library;
 pub mod logs;
 pub mod member;
+pub mod places;
 pub mod random;
 pub mod saved;
 pub mod second_calls;

@@ -4,10 +4,11 @@
 
 use lotlog::{Answer, Digest, Held, Side};
 use second::hash::{Hash, Sha256};
+use second::proof::{components, link};
 use second::saved::{file_length, FILE_LEAST, FILE_MOST};
 use second::store::{HEADER, OPEN, RECORD, STATE};
 use second::trie::climbed;
-use second::{message, ENTRY_MOST, LIMIT};
+use second::{message, path, ENTRY_MOST, LIMIT};
 
 use crate::calls::{AdvanceCalls, HashCalls, MemberCalls, SavedCalls, StoreCalls, TrieCalls};
 use crate::second_calls::Second;
@@ -96,6 +97,22 @@ pub const REFUSES_A_DIGEST_OF_ZEROS: usize = 74;
 pub const REFUSES_A_ROW_OF_ZEROS: usize = 75;
 pub const REFUSED_FILE_CLEARS: usize = 76;
 pub const KEEPS_FREE_ROWS: usize = 77;
+pub const NAMES_THE_ELEMENT_LEFT: usize = 78;
+pub const LEVEL_ONE_MORE: usize = 79;
+pub const LEVEL_OF_THE_ELEMENT_LEFT: usize = 80;
+pub const NAMES_THE_LINK_OF_A_ROW: usize = 81;
+pub const LEVEL_HOPPED_WITH_9: usize = 82;
+pub const NAMES_THE_HIGHEST_ROW: usize = 83;
+pub const ELEMENT_AND_LEVEL_SWAPPED: usize = 84;
+pub const NAMES_THE_LAST_BAD_HOP: usize = 85;
+pub const NO_PLACE_WITH_9: usize = 86;
+pub const NO_PLACE_WITH_10: usize = 87;
+pub const PLACE_WHEN_ACCEPTED: usize = 88;
+pub const PLACE_WITH_2: usize = 89;
+pub const PLACE_WITH_7: usize = 90;
+pub const PLACE_WITH_8: usize = 91;
+pub const PLACE_WITH_11: usize = 92;
+pub const PLACE_WITH_13: usize = 93;
 
 impl<const FAULT: usize> HashCalls for Faulty<FAULT> {
     fn hash(message: &[u8], digest: &mut Digest) -> u64 {
@@ -185,6 +202,82 @@ impl<const FAULT: usize> StoreCalls for Faulty<FAULT> {
     }
 }
 
+/// A path with its first element, whose digest is known, and the components of the others.
+struct Walk<'a> {
+    elements: Vec<u64>,
+    known: Digest,
+    components: Vec<&'a [u8]>,
+}
+
+impl<'a> Walk<'a> {
+    /// The walk of a membership proof that has the length of its path.
+    fn membership(i: u64, n: u64, proof: &'a [u8]) -> Walk<'a> {
+        let elements = path::membership(i, n).expect("a path");
+        let mut components = components(&elements, proof).expect("its length");
+        let known = message::element_digest::<Sha256>(i, components.remove(0));
+        Walk { elements, known, components }
+    }
+
+    /// The same of an advancement proof.
+    fn advancement(held: &Held, n: u64, proof: &'a [u8]) -> Walk<'a> {
+        let i = held_count(held);
+        let others = path::advancement(i, n).expect("a path");
+        let components = components(&others, proof).expect("its length");
+        let known = held[16..48].try_into().expect("32 bytes");
+        Walk { elements: [&[i][..], &others].concat(), known, components }
+    }
+
+    fn level(&self, hop: usize) -> u32 {
+        (self.elements[hop + 1] - self.elements[hop]).trailing_zeros()
+    }
+
+    /// The digest before a hop, of whatever component stands there.
+    fn before(&self, hop: usize) -> Digest {
+        match hop {
+            0 => self.known,
+            _ => message::element_digest::<Sha256>(self.elements[hop], self.components[hop - 1]),
+        }
+    }
+
+    /// The place of the last hop whose link differs.
+    fn last_bad(&self) -> [u64; 2] {
+        let bad = |hop: &usize| link(self.components[*hop], self.level(*hop)) != self.before(*hop);
+        let hop = (0..self.components.len()).rev().find(bad).expect("a bad hop");
+        [self.elements[hop + 1], self.level(hop).into()]
+    }
+
+    /// The highest row that differs at the first hop.
+    fn highest_row(&self, held: &Held) -> u64 {
+        let held_row = |row: u32| &held[48 + 32 * row as usize..][..32];
+        let bad = |row: &u32| link(self.components[0], row + 1) != held_row(*row);
+        let rows = self.level(0)..self.elements[1].trailing_zeros();
+        rows.rev().find(bad).expect("a bad row").into()
+    }
+}
+
+impl<const FAULT: usize> Faulty<FAULT> {
+    /// The faults in where a proof broke.
+    fn misplaced<'a>(answer: Answer, n: u64, walk: impl Fn() -> Walk<'a>) -> Answer {
+        let [hops, element, level] = answer.beside;
+        let hop = hops as usize;
+        let [element, level] = match (FAULT, answer.number) {
+            (NAMES_THE_ELEMENT_LEFT, 9 | 10) => [walk().elements[hop], level],
+            (LEVEL_ONE_MORE, 10) | (NAMES_THE_LINK_OF_A_ROW, 9) => [element, level + 1],
+            (LEVEL_OF_THE_ELEMENT_LEFT, 10) => {
+                [element, walk().elements[hop].trailing_zeros().into()]
+            }
+            (LEVEL_HOPPED_WITH_9, 9) => [element, walk().level(hop).into()],
+            (ELEMENT_AND_LEVEL_SWAPPED, 9 | 10) => [level, element],
+            (NAMES_THE_LAST_BAD_HOP, 10) => walk().last_bad(),
+            (NO_PLACE_WITH_9, 9) | (NO_PLACE_WITH_10, 10) => [0, 0],
+            (PLACE_WHEN_ACCEPTED, 0) | (PLACE_WITH_2, 2) | (PLACE_WITH_7, 7) => [n, 0],
+            (PLACE_WITH_8, 8) | (PLACE_WITH_11, 11) => [n, 0],
+            _ => return answer,
+        };
+        Answer { beside: [hops, element, level], ..answer }
+    }
+}
+
 impl<const FAULT: usize> MemberCalls for Faulty<FAULT> {
     fn build_membership(store: &[u8], i: u64, n: u64, out: &mut [u8]) -> Answer {
         let answer = Second::build_membership(store, i, n, out);
@@ -203,7 +296,7 @@ impl<const FAULT: usize> MemberCalls for Faulty<FAULT> {
             }
             (TAKES_ANY_ENTRY, 8) => Answer { number: 0, ..answer },
             (NO_HOPS_WITH_11, 11) => Answer { beside: [0; 3], ..answer },
-            _ => answer,
+            _ => Self::misplaced(answer, n, || Walk::membership(i, n, proof)),
         }
     }
 
@@ -211,6 +304,13 @@ impl<const FAULT: usize> MemberCalls for Faulty<FAULT> {
         let answer = Second::dispute(sides, i, n, digest, out);
         match FAULT {
             NAMES_THE_SECOND_PROOF if answer.number == 13 => Answer { beside: [2, 0, 0], ..answer },
+            PLACE_WITH_13 if answer.number == 13 => {
+                let which = answer.beside[0];
+                let Side { entry, proof } = sides[which as usize - 1];
+                let [_, element, level] =
+                    Second::check_membership(entry, i, n, digest, proof).beside;
+                Answer { beside: [which, element, level], ..answer }
+            }
             _ => answer,
         }
     }
@@ -250,9 +350,13 @@ impl<const FAULT: usize> AdvanceCalls for Faulty<FAULT> {
         match (FAULT, answer.number) {
             (NEVER_CHECKS_ROWS, 9) => return Answer { number: 0, ..answer },
             (KEEPS_A_REFUSED_DIGEST, 11) => held[16..48].copy_from_slice(digest),
+            (NAMES_THE_HIGHEST_ROW, 9) if answer.beside[0] == 0 => {
+                let row = Walk::advancement(held, n, proof).highest_row(held);
+                return Answer { beside: [0, answer.beside[1], row], ..answer };
+            }
             _ => (),
         }
-        answer
+        Self::misplaced(answer, n, || Walk::advancement(held, n, proof))
     }
 }
 

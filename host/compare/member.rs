@@ -12,7 +12,9 @@ use crate::both::Both;
 use crate::calls::MemberCalls;
 use crate::damage::{bit_turned, parts_swapped, spoiled};
 use crate::logs::{entry, first_records, read, sound};
+use crate::places;
 use crate::random::Random;
+use crate::second_calls::Second;
 use crate::Scale;
 
 const SEED: u64 = 2;
@@ -31,6 +33,8 @@ pub fn run<C: MemberCalls>(both: &mut Both<C>, scale: Scale) {
     let store = sound(elements, 0);
     random_pairs(both, &store, scale.pick(10_000, 100), &mut random);
     build_anywhere(both, &store, scale.pick(10_000, 100), &mut random);
+    places::run::<Claim, C, Second>(both, &store, scale);
+    places::disputes(both, scale);
     if scale == Scale::Full {
         the_longest(both, &store);
     }
@@ -58,7 +62,7 @@ impl Claim {
         membership(self.i, self.n).expect("a path").len() as u64 - 1
     }
 
-    pub fn check<C: MemberCalls>(&self, both: &mut Both<C>) -> Answer {
+    pub fn check<C: MemberCalls, S: MemberCalls>(&self, both: &mut Both<C, S>) -> Answer {
         both.check_membership(&self.entry, self.i, self.n, &self.digest, &self.proof)
     }
 

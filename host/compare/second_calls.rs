@@ -3,7 +3,7 @@
 use lotlog::{Answer, Digest, Held, Side};
 use second::dispute::{self, Found};
 use second::hash::{self, Sha256};
-use second::refusal;
+use second::refusal::{self, Refusal};
 use second::trie::{self, Shown};
 use second::{held, proof, saved, store};
 
@@ -12,11 +12,13 @@ use crate::calls::{AdvanceCalls, HashCalls, MemberCalls, SavedCalls, StoreCalls,
 /// The second program.
 pub enum Second {}
 
-/// A refusal says one number, and 0 in the other places.
+/// A refusal says its number beside it and then where a proof broke, or 0 and 0.
 fn numbers(result: refusal::Answer<[u64; 3]>) -> Answer {
     match result {
         Ok(beside) => Answer { number: 0, beside },
-        Err(refused) => Answer { number: refused.number, beside: [refused.beside, 0, 0] },
+        Err(Refusal { number, beside, place }) => {
+            Answer { number, beside: [beside, place.element, place.level] }
+        }
     }
 }
 

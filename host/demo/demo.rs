@@ -2,15 +2,15 @@
 //! demo-story LOTS FOLDER.
 //!
 //! The house and the practices keep what they have in files of the folder, and read them anew for
-//! each call. A line tells a call and its answer: its number and the number beside it. The first
-//! answer that is not the expected one ends the story with status 1. What is expected is what
-//! documents 01 and 02 give for the sample, `host/demo/lots.txt`.
+//! each call. A line tells a call and its answer: its number, where a proof broke, and the number
+//! beside it. The first answer that is not the expected one ends the story with status 1. What is
+//! expected is what documents 01 and 02 give for the sample, `host/demo/lots.txt`.
 
 use std::path::PathBuf;
 use std::{env, fs, process};
 
 use lotlog::file::{load_held, save_held, Error, Refusal};
-use lotlog::{meaning, store_bytes, Answer, Digest, Held, Side, TRIE_PROOF_MOST, WHOLE};
+use lotlog::{store_bytes, Answer, Digest, Held, Side, TRIE_PROOF_MOST, WHOLE};
 
 const LOG: u64 = 7;
 const ROOM: usize = 16;
@@ -54,13 +54,30 @@ impl Files {
     }
 }
 
-/// Tells a call and its answer, and ends the story where that is not the expected one.
-fn tell(call: &str, answer: Answer, expected: [u64; 2], said: &str) {
-    println!("  {:<46}{:>2} {}{}", call, answer.number, meaning(answer.number), said);
-    if [answer.number, answer.beside[0]] != expected {
-        eprintln!("The expected answer is {} with {}.", expected[0], expected[1]);
+/// Ends the story where an answer is not the expected one.
+fn must_be(answer: Answer, expected: Answer) {
+    if answer != expected {
+        eprintln!("The expected answer is {} with {:?}.", expected.number, expected.beside);
         process::exit(1);
     }
+}
+
+/// Tells a call and its answer.
+fn tell_whole(call: &str, answer: Answer, expected: Answer, said: &str) {
+    println!("  {:<46}{:>2} {}{}", call, answer.number, answer.meaning(), said);
+    must_be(answer, expected);
+}
+
+/// Tells a call that answers with one number beside its own, or none.
+fn tell(call: &str, answer: Answer, expected: [u64; 2], said: &str) {
+    let [number, beside] = expected;
+    tell_whole(call, answer, Answer { number, beside: [beside, 0, 0] }, said);
+}
+
+/// Tells the check of a broken proof: the hops that were good, the element, and the row or level.
+fn tell_broken(call: &str, answer: Answer, number: u64, beside: [u64; 3]) {
+    let said = format!(", hops {}", answer.beside[0]);
+    tell_whole(call, answer, Answer { number, beside }, &said);
 }
 
 /// Tells a call that answers with a number which has a name, and gives that number.
@@ -69,9 +86,14 @@ fn tell_named(call: &str, answer: Answer, expected: [u64; 2], name: &str) -> u64
     answer.beside[0]
 }
 
+/// The answer of a call that answers with its number alone.
+fn alone(number: u64) -> Answer {
+    Answer { number, beside: [0; 3] }
+}
+
 /// Tells a call that answers with its number alone.
 fn tell_alone(call: &str, number: u64, expected: u64, said: &str) {
-    tell(call, Answer { number, beside: [0; 3] }, [expected, 0], said);
+    tell_whole(call, alone(number), alone(expected), said);
 }
 
 /// Tells a call that answers with its number alone, which is 0.
@@ -192,8 +214,16 @@ fn check(files: &Files, notice: Lot, n: u64, hops: u64) {
     tell_named(&call, answer, [0, hops], "hops");
 }
 
-/// The same check, each time with one thing that is not so.
+/// Checks, an advance, audits and a file, each with one thing that is not so.
 fn refusals(files: &Files, notice: Lot, other: &[u8], n: u64) {
+    check_changed(files, notice, other, n);
+    advance_changed(files, notice.position, n);
+    audit_changed(files, notice);
+    read_cut(files);
+}
+
+/// The same check, each time with one thing that is not so.
+fn check_changed(files: &Files, notice: Lot, other: &[u8], n: u64) {
     let proof = files.read("proof.member");
     let digest = held_digest(files, "held.after");
     let check = |entry: &[u8], digest: &Digest, proof: &[u8]| {
@@ -204,12 +234,26 @@ fn refusals(files: &Files, notice: Lot, other: &[u8], n: u64) {
     let mut changed = proof.clone();
     changed[64] ^= 1;
     let answer = check(notice.entry, &digest, &changed);
-    tell_named("one bit of the proof changed", answer, [10, 1], "hops");
+    tell_broken("one bit of the proof changed", answer, 10, [1, 8, 1]);
     tell("another entry", check(other, &digest, &proof), [8, 0], "");
     let answer = check(notice.entry, &digest, &proof[..proof.len() - 1]);
     tell("the proof without its last byte", answer, [7, 0], "");
     let old = held_digest(files, "held.before");
     tell_named("an old digest", check(notice.entry, &old, &proof), [11, 3], "hops");
+}
+
+/// A practice that stopped at i is sent an advancement proof to n with one bit changed: of the link of
+/// 8 that row 1 must equal. Before it lie the component of 6, of 96 bytes, and d and two links of 8.
+fn advance_changed(files: &Files, i: u64, n: u64) {
+    let store = files.read("store.lot");
+    let (mut held, mut proof) = ([0; 688], [0; 384]);
+    must_be(alone(lotlog::held_at(&store, i, &mut held)), alone(0));
+    let built = lotlog::build_advancement(&store, i, n, &mut proof);
+    must_be(built, Answer { number: 0, beside: [384, 0, 0] });
+    proof[96 + 96] ^= 1;
+    let answer = lotlog::check_advancement(&mut held, n, &files.array("digest"), &proof);
+    let call = format!("advance from {}, one bit of its proof changed", i);
+    tell_broken(&call, answer, 9, [1, 8, 1]);
 }
 
 /// The saved file is read without its last byte.
@@ -311,8 +355,6 @@ fn story(lots: &[&[u8]], files: &Files) {
 
     println!("What is not so is refused.");
     refusals(files, notice, lots[0], late);
-    audit_changed(files, notice);
-    read_cut(files);
 
     println!("Two practices were shown the same proof.");
     dispute(files, notice, late);

@@ -7,14 +7,19 @@
 //! dictionary of three keys: the empty one, "A" and "C". Siblings that are not printed are zero
 //! too.
 //!
-//! At the end stand the files of held states, whole. For these the log goes on to twelve elements:
-//! from 4 on, the entry of element j is j bytes of the value j.
+//! Then stand the files of held states, whole. For these the log goes on to twelve elements: from 4
+//! on, the entry of element j is j bytes of the value j.
+//!
+//! At the end stand the answers to broken proofs of that log. A proof is cut into parts of 32 bytes,
+//! counted from 0, and the first bit of the parts named is turned. An answer is the number, the hops
+//! found good, the element, and the row or the level, 8 bytes each.
 
 use second::hash::{Hash, Sha256, Xor};
-use second::held::held_of;
+use second::held::{check_advancement, held_of};
 use second::message::entry_digest;
 use second::path::{advancement, membership};
-use second::proof::proof_of;
+use second::proof::{check_membership, proof_of};
+use second::refusal::Refusal;
 use second::saved::file_of;
 use second::store::{store_of, Log};
 use second::trie::{self, Kind, PROOF_MOST};
@@ -81,13 +86,54 @@ fn print_trie<H: Hash>(hash: &str) {
     print_siblings::<H>(hash, "absence(B)", Kind::Absence, &list, b"B");
 }
 
+/// The store of the log of twelve elements.
+fn longer<H: Hash>() -> Vec<u8> {
+    let more = (4..=12).map(|j| vec![j; usize::from(j)]);
+    store_of::<H>(LOG, 12, entries().into_iter().chain(more))
+}
+
 /// Files with no row, with two rows, with a free row between them, and with free rows below them.
 fn print_files<H: Hash>(hash: &str) {
-    let more = (4..=12).map(|j| vec![j; usize::from(j)]);
-    let store = store_of::<H>(LOG, 12, entries().into_iter().chain(more));
+    let store = longer::<H>();
     let log = Log::read(&store).expect("a sound store");
     for at in [0, 3, 5, 12] {
         print(&format!("{}.file({})", hash, at), &file_of(&held_of::<H>(&log, at)));
+    }
+}
+
+/// The proof with the first bit of these parts turned.
+fn turned(proof: &[u8], parts: &[usize]) -> Vec<u8> {
+    let mut proof = proof.to_vec();
+    parts.iter().for_each(|part| proof[32 * part] ^= 0x80);
+    proof
+}
+
+fn print_refusal(name: &str, parts: &[usize], refused: Refusal) {
+    let Refusal { number, beside, place } = refused;
+    let numbers = [number, beside, place.element, place.level];
+    let parts: Vec<String> = parts.iter().map(|part| part.to_string()).collect();
+    let name = format!("{}.turned({})", name, parts.join(","));
+    print(&name, &numbers.map(u64::to_be_bytes).concat());
+}
+
+/// A membership proof over 5, 6, 8, 12, which begin at the parts 0, 2, 5, 10; and an advancement
+/// proof from 7 over 8 and 12, which begin at 0 and 5.
+fn print_broken<H: Hash>(hash: &str) {
+    let store = longer::<H>();
+    let log = Log::read(&store).expect("a sound store");
+    let digest = log.digest::<H>(12);
+    let proof = proof_of::<H>(&log, &membership(5, 12).expect("a path"));
+    for parts in [&[0][..], &[1], &[2], &[7], &[9], &[10], &[13], &[7, 13]] {
+        let checked = check_membership::<H>(&[5; 5], 5, 12, &digest, &turned(&proof, parts));
+        let name = format!("{}.membership(5,12)", hash);
+        print_refusal(&name, parts, checked.expect_err("a broken proof"));
+    }
+    let proof = proof_of::<H>(&log, &advancement(7, 12).expect("a path"));
+    let held = held_of::<H>(&log, 7);
+    for parts in [&[0][..], &[1], &[2], &[3], &[4], &[5], &[3, 4], &[1, 4], &[0, 8]] {
+        let checked = check_advancement::<H>(&held, 12, &digest, &turned(&proof, parts));
+        let name = format!("{}.advancement(7,12)", hash);
+        print_refusal(&name, parts, checked.expect_err("a broken proof"));
     }
 }
 
@@ -101,4 +147,6 @@ fn main() {
     print_trie::<Sha256>("sha256");
     print_files::<Xor>("standin");
     print_files::<Sha256>("sha256");
+    print_broken::<Xor>("standin");
+    print_broken::<Sha256>("sha256");
 }

@@ -16,8 +16,8 @@
  *    6  lent output too short
  *    7  proof length not that of the path
  *    8  first d is not the entry's
- *    9  basis row differs
- *   10  link differs
+ *    9  basis row differs; `answer` says at which element and in which row
+ *   10  link differs; `answer` says at which element and at which level
  *   11  last digest differs
  *   12  audit: an element's T is wrong
  *   13  dispute, clash: a proof is not accepted
@@ -129,7 +129,9 @@ uint64_t lot_build_membership(const uint8_t *store, size_t store_length, uint64_
                               uint8_t *out, size_t out_length, uint64_t answer[3]);
 
 /* Checks that the entry stands at position i of the log whose digest at length n is given. Refusals:
-   3, 4, 7, 8, 10, 11. Answer: the hops found good, with 10 and 11 too. */
+   3, 4, 7, 8, 10, 11. Answer: the hops found good, with 10 and 11 too; then with 10 where the proof
+   broke: the element that the bad hop reaches and the level hopped. Both are 0 with any other number.
+   What is wrong is the link of that level in the element's component, or the component before it. */
 uint64_t lot_check_membership(const uint8_t *entry, size_t entry_length, uint64_t i, uint64_t n,
                               const uint8_t digest[32], const uint8_t *proof, size_t proof_length,
                               uint64_t answer[3]);
@@ -137,7 +139,8 @@ uint64_t lot_check_membership(const uint8_t *entry, size_t entry_length, uint64_
 /* Given two entries with accepted proofs for one (i, n, digest): writes two different messages of
    equal hash, one to each output, or finds that nothing differs. Refusals: 6 for an output under 4,097
    bytes, 13. Answer: 1 if all is the same, else 0 and the two messages' lengths; with 13, 1 or 2 for
-   the proof that is not accepted, 1 if both are not. */
+   the proof that is not accepted, 1 if both are not, and not where it broke: lot_check_membership says
+   that. */
 uint64_t lot_dispute(const uint8_t *first_entry, size_t first_entry_length,
                      const uint8_t *first_proof, size_t first_proof_length,
                      const uint8_t *second_entry, size_t second_entry_length,
@@ -164,7 +167,10 @@ uint64_t lot_build_advancement(const uint8_t *store, size_t store_length, uint64
                                uint8_t *out, size_t out_length, uint64_t answer[3]);
 
 /* Advances a held state to length n with the digest claimed: `held` becomes the new state if the proof
-   is accepted. Refusals: 2, 4, 7, 9, 10, 11. Answer: the hops found good, with 9, 10 and 11 too. */
+   is accepted. Refusals: 2, 4, 7, 9, 10, 11. Answer: the hops found good, with 9, 10 and 11 too; then
+   with 9 and 10 where the proof broke: the element that the bad hop reaches, and with 9 the row that
+   differs, the lowest if several do, with 10 the level hopped. Both are 0 with any other number. Row c
+   differs from the link of level c + 1 in that element's component; the number given is c. */
 uint64_t lot_check_advancement(uint8_t held[688], uint64_t n, const uint8_t digest[32],
                                const uint8_t *proof, size_t proof_length, uint64_t answer[3]);
 

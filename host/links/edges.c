@@ -4,7 +4,8 @@
  * Each call of the table is made with all its lent pieces at aligned addresses. Then pieces are moved
  * by 1 to 15 bytes, in every choice of pieces. And slices are made empty, in every choice of slices:
  * once at good pointers, once at NULL. Each time the number, the answer and all lent bytes must be the
- * same, and the bytes around a lent piece must stay.
+ * same, and the bytes around a lent piece must stay. All three numbers of an answer are those of the
+ * table: where nothing is to be said they are 0, and a broken proof has its place there.
  */
 #include <stdio.h>
 #include <string.h>
@@ -24,6 +25,7 @@ enum {
 /* The material. Each proof has the length of its path: 1, 2, 4, 5, then 2, 4, 5, then 4, 5 alone. */
 static uint8_t entry[200], store[LOT_STORE_BYTES(COUNT + 1)], digest[LOT_DIGEST_BYTES];
 static uint8_t proof[352], changed[352], proof_2[288], advance[192];
+static uint8_t bad_link[352], bad_row[192]; /* proof and advance with a bit turned in 4's component */
 static uint8_t held_2[LOT_HELD_BYTES], held_5[LOT_HELD_BYTES];
 static uint8_t file_5[LOT_HELD_FILE_LEAST + 2 * LOT_DIGEST_BYTES]; /* 5 has two rows in use */
 
@@ -90,68 +92,76 @@ struct piece {
 #define FIXED_OUT(length) {AN_ARRAY, NULL, length, 0}
 #define TOLD {AN_ANSWER, NULL, LOT_ANSWER_NUMBERS * sizeof(uint64_t), 0}
 
-/* What a call of the table returns. The clash alone is not done: under SHA-256 no one can make the two
-   accepted proofs that it takes. So it is refused as late as it can be, when both have been read. */
-enum { DONE = 0, NOT_ACCEPTED = 13 };
+/* What a call of the table returns. Broken proofs are refused. Else the clash alone is not done: under
+   SHA-256 no one can make the two accepted proofs that it takes. So it is refused as late as it can be,
+   when both have been read. */
+enum { DONE = 0, ROW_DIFFERS = 9, LINK_DIFFERS = 10, NOT_ACCEPTED = 13 };
 
-/* A call: the numbers that it takes, the number that it returns, the first number of its answer, and
-   what it is lent. */
+/* A call: the numbers that it takes, the number that it returns, its answer, and what it is lent. */
 struct test {
     const char *name;
     uint64_t (*make)(const struct lending *);
-    uint64_t number[2], returned, told;
+    uint64_t number[2], returned, told[LOT_ANSWER_NUMBERS];
     struct piece pieces[PIECES];
 };
 
 static const struct test tests[] = {
-    {"hash", call_hash, {0, 0}, DONE, 0, {IN(entry, 0), FIXED_OUT(32)}},
-    {"start", call_start, {LOG, 0}, DONE, 0, {OUT(sizeof store, 6)}},
-    {"count", call_count, {0, 0}, DONE, COUNT, {IN(store, 1), TOLD}},
-    {"append", call_append, {LOT_APPEND_WHOLE, 0}, DONE, COUNT + 1, {IN(store, 1), IN(entry, 0), TOLD}},
-    {"digest at", call_digest_at, {COUNT, 0}, DONE, 0, {IN(store, 1), FIXED_OUT(32)}},
-    {"audit", call_audit, {0, 0}, DONE, COUNT, {IN(store, 1), TOLD}},
-    {"build membership", call_build_membership, {1, COUNT}, DONE, sizeof proof,
+    {"hash", call_hash, {0, 0}, DONE, {0}, {IN(entry, 0), FIXED_OUT(32)}},
+    {"start", call_start, {LOG, 0}, DONE, {0}, {OUT(sizeof store, 6)}},
+    {"count", call_count, {0, 0}, DONE, {COUNT}, {IN(store, 1), TOLD}},
+    {"append", call_append, {LOT_APPEND_WHOLE, 0}, DONE, {COUNT + 1},
+     {IN(store, 1), IN(entry, 0), TOLD}},
+    {"digest at", call_digest_at, {COUNT, 0}, DONE, {0}, {IN(store, 1), FIXED_OUT(32)}},
+    {"audit", call_audit, {0, 0}, DONE, {COUNT}, {IN(store, 1), TOLD}},
+    {"build membership", call_build_membership, {1, COUNT}, DONE, {sizeof proof},
      {IN(store, 1), OUT(sizeof proof, 6), TOLD}},
-    {"check membership", call_check_membership, {1, COUNT}, DONE, 3,
+    {"check membership", call_check_membership, {1, COUNT}, DONE, {3},
      {IN(entry, 8), FIXED(digest), IN(proof, 7), TOLD}},
-    {"check membership of no bytes", call_check_membership, {2, COUNT}, DONE, 2,
+    {"check membership of no bytes", call_check_membership, {2, COUNT}, DONE, {2},
      {NOTHING, FIXED(digest), IN(proof_2, 7), TOLD}},
-    {"dispute", call_dispute, {1, COUNT}, DONE, 1,
+    {"check membership of a broken proof", call_check_membership, {1, COUNT}, LINK_DIFFERS, {1, 4, 1},
+     {IN(entry, 8), FIXED(digest), IN(bad_link, 7), TOLD}},
+    {"dispute", call_dispute, {1, COUNT}, DONE, {1},
      {IN(entry, 13), IN(proof, 13), IN(entry, 13), IN(proof, 13), FIXED(digest),
       OUT(LOT_DISPUTE_LEAST, 6), OUT(LOT_DISPUTE_LEAST, 6), TOLD}},
-    {"dispute of no bytes", call_dispute, {2, COUNT}, DONE, 1,
+    {"dispute of no bytes", call_dispute, {2, COUNT}, DONE, {1},
      {NOTHING, IN(proof_2, 13), NOTHING, IN(proof_2, 13), FIXED(digest),
       OUT(LOT_DISPUTE_LEAST, 6), OUT(LOT_DISPUTE_LEAST, 6), TOLD}},
-    {"differing", call_differing, {1, COUNT}, DONE, sizeof proof - 64,
+    {"dispute over a broken proof", call_dispute, {1, COUNT}, NOT_ACCEPTED, {2},
+     {IN(entry, 13), IN(proof, 13), IN(entry, 13), IN(bad_link, 13), FIXED(digest),
+      OUT(LOT_DISPUTE_LEAST, 6), OUT(LOT_DISPUTE_LEAST, 6), TOLD}},
+    {"differing", call_differing, {1, COUNT}, DONE, {sizeof proof - 64, 64},
      {IN(proof, 0), IN(changed, 0), TOLD}},
-    {"held at", call_held_at, {COUNT, 0}, DONE, 0, {IN(store, 1), FIXED_OUT(LOT_HELD_BYTES)}},
-    {"held start", call_held_start, {LOG, 0}, DONE, 0, {FIXED_OUT(LOT_HELD_BYTES)}},
-    {"build advancement", call_build_advancement, {2, COUNT}, DONE, sizeof advance,
+    {"held at", call_held_at, {COUNT, 0}, DONE, {0}, {IN(store, 1), FIXED_OUT(LOT_HELD_BYTES)}},
+    {"held start", call_held_start, {LOG, 0}, DONE, {0}, {FIXED_OUT(LOT_HELD_BYTES)}},
+    {"build advancement", call_build_advancement, {2, COUNT}, DONE, {sizeof advance},
      {IN(store, 1), OUT(sizeof advance, 6), TOLD}},
-    {"build advancement of 0 hops", call_build_advancement, {COUNT, COUNT}, DONE, 0,
+    {"build advancement of 0 hops", call_build_advancement, {COUNT, COUNT}, DONE, {0},
      {IN(store, 1), NOTHING, TOLD}},
-    {"check advancement", call_check_advancement, {COUNT, 0}, DONE, 2,
+    {"check advancement", call_check_advancement, {COUNT, 0}, DONE, {2},
      {FIXED(held_2), FIXED(digest), IN(advance, 7), TOLD}},
-    {"check advancement of 0 hops", call_check_advancement, {COUNT, 0}, DONE, 0,
+    {"check advancement of a broken proof", call_check_advancement, {COUNT, 0}, ROW_DIFFERS, {0, 4, 1},
+     {FIXED(held_2), FIXED(digest), IN(bad_row, 7), TOLD}},
+    {"check advancement of 0 hops", call_check_advancement, {COUNT, 0}, DONE, {0},
      {FIXED(held_5), FIXED(digest), NOTHING, TOLD}},
-    {"held write", call_held_write, {0, 0}, DONE, sizeof file_5,
+    {"held write", call_held_write, {0, 0}, DONE, {sizeof file_5},
      {FIXED(held_5), OUT(sizeof file_5, 6), TOLD}},
-    {"held read", call_held_read, {0, 0}, DONE, 0, {IN(file_5, 18), FIXED_OUT(LOT_HELD_BYTES)}},
-    {"handle", call_handle, {0, 0}, DONE, 0, {IN(entry, 0), FIXED_OUT(32)}},
-    {"trie root", call_trie_root, {0, 0}, DONE, 0, {IN(handles, 0), FIXED_OUT(32)}},
-    {"prove presence", call_prove_presence, {0, 0}, DONE, sizeof presence,
+    {"held read", call_held_read, {0, 0}, DONE, {0}, {IN(file_5, 18), FIXED_OUT(LOT_HELD_BYTES)}},
+    {"handle", call_handle, {0, 0}, DONE, {0}, {IN(entry, 0), FIXED_OUT(32)}},
+    {"trie root", call_trie_root, {0, 0}, DONE, {0}, {IN(handles, 0), FIXED_OUT(32)}},
+    {"prove presence", call_prove_presence, {0, 0}, DONE, {sizeof presence},
      {IN(handles, 15), IN(entry, 15), OUT(sizeof presence, 6), TOLD}},
-    {"prove absence", call_prove_absence, {0, 0}, DONE, sizeof absence,
+    {"prove absence", call_prove_absence, {0, 0}, DONE, {sizeof absence},
      {IN(other, 0), IN(entry, 0), OUT(sizeof absence, 6), TOLD}},
-    {"prove absence of no bytes from nothing", call_prove_absence, {0, 0}, DONE, 0,
+    {"prove absence of no bytes from nothing", call_prove_absence, {0, 0}, DONE, {0},
      {NOTHING, NOTHING, NOTHING, TOLD}},
-    {"check presence", call_check_presence, {0, 0}, DONE, 0,
+    {"check presence", call_check_presence, {0, 0}, DONE, {0},
      {IN(entry, 17), FIXED(root), IN(presence, 16)}},
-    {"check absence", call_check_absence, {0, 0}, DONE, 0,
+    {"check absence", call_check_absence, {0, 0}, DONE, {0},
      {IN(entry, 17), FIXED(other_root), IN(absence, 17)}},
-    {"check absence of no bytes from nothing", call_check_absence, {0, 0}, DONE, 0,
+    {"check absence of no bytes from nothing", call_check_absence, {0, 0}, DONE, {0},
      {NOTHING, FIXED(empty_root), NOTHING}},
-    {"trie clash", call_trie_clash, {0, 0}, NOT_ACCEPTED, 2,
+    {"trie clash", call_trie_clash, {0, 0}, NOT_ACCEPTED, {2},
      {IN(entry, 13), FIXED(root), IN(presence, 13), IN(absence, 13), OUT(LOT_CLASH_LEAST, 6),
       OUT(LOT_CLASH_LEAST, 6), TOLD}},
 };
@@ -241,7 +251,8 @@ static int misaligned(const struct test *test) {
     if (!make(test, &way, &aligned)) return 0;
     if (aligned.number != test->returned) return wrong(test, &way, "not the number of the table");
     for (int k = 0; k < PIECES; k++)
-        if (test->pieces[k].kind == AN_ANSWER && memcmp(aligned.lent[k], &test->told, 8) != 0)
+        if (test->pieces[k].kind == AN_ANSWER &&
+            memcmp(aligned.lent[k], test->told, sizeof test->told) != 0)
             return wrong(test, &way, "not the answer of the table");
     for (way.moved = 1; way.moved < 1u << PIECES; way.moved++)
         if (only(test, way.moved, AN_ARRAY))
@@ -302,6 +313,10 @@ static int prepare(void) {
     refused |= lot_held_write(held_5, file_5, sizeof file_5, answer);
     memcpy(changed, proof, sizeof proof);
     changed[sizeof changed - 1] ^= 1; /* in the last component, which has 64 bytes */
+    memcpy(bad_link, proof, sizeof proof);
+    bad_link[64 + 96 + 64] ^= 1; /* of 4, after 1 and 2: the link of level 1, which is the one hopped */
+    memcpy(bad_row, advance, sizeof advance);
+    bad_row[96] ^= 1; /* of 4: the link of level 2, which row 1 of the state at 2 must equal */
     refused |= prepare_trie();
     if (refused != 0) fprintf(stderr, "the material can't be made\n");
     return refused == 0;

@@ -86,6 +86,34 @@ pub struct Answer {
     pub beside: [u64; 3],
 }
 
+/// Where a proof broke: the element that the bad hop reaches, and with 9 the row that differs, the
+/// lowest if several do, with 10 the level hopped.
+#[derive(Debug, Clone, Copy, PartialEq, Eq)]
+pub struct Place {
+    pub element: u64,
+    pub level: u64,
+}
+
+impl Answer {
+    /// Where a proof broke, with 9 and 10; no other number has a place.
+    #[inline]
+    pub fn place(&self) -> Option<Place> {
+        let [_, element, level] = self.beside;
+        matches!(self.number, 9 | 10).then(|| Place { element, level })
+    }
+
+    /// Words for the number and for the place, if there is one.
+    #[inline]
+    pub fn meaning(&self) -> String {
+        let words = meaning(self.number);
+        let kind = if self.number == 9 { "row" } else { "level" };
+        match self.place() {
+            Some(at) => format!("{} at element {}, {} {}", words, at.element, kind, at.level),
+            None => words.to_string(),
+        }
+    }
+}
+
 mod raw {
     extern "C" {
         pub fn lot_hash(message: *const u8, length: usize, digest: *mut u8) -> u64;
@@ -292,7 +320,8 @@ pub fn build_membership(store: &[u8], i: u64, n: u64, out: &mut [u8]) -> Answer 
     })
 }
 
-/// Checks a membership proof; answers the hops found good. Refusals: 3, 4, 7, 8, 10, 11.
+/// Checks a membership proof; answers the hops found good, and with 10 also where the proof broke:
+/// [`Answer::place`]. Refusals: 3, 4, 7, 8, 10, 11.
 #[inline]
 pub fn check_membership(entry: &[u8], i: u64, n: u64, digest: &Digest, proof: &[u8]) -> Answer {
     answered(|answer| unsafe {
@@ -383,7 +412,8 @@ pub fn build_advancement(store: &[u8], i: u64, n: u64, out: &mut [u8]) -> Answer
     })
 }
 
-/// Advances a held state; answers the hops found good. Refusals: 2, 4, 7, 9, 10, 11.
+/// Advances a held state; answers the hops found good, and with 9 and 10 also where the proof broke:
+/// [`Answer::place`]. Refusals: 2, 4, 7, 9, 10, 11.
 #[inline]
 pub fn check_advancement(held: &mut Held, n: u64, digest: &Digest, proof: &[u8]) -> Answer {
     answered(|answer| unsafe {

@@ -4,7 +4,8 @@ use crate::hash::Hash;
 use crate::message::{element_digest, start_digest};
 use crate::path::{self, hop_level};
 use crate::proof::{components, link};
-use crate::refusal::{refuse, refuse_with, Answer, BAD_STATE, LAST_DIGEST, LINK, ROW};
+use crate::refusal::{refuse, refuse_at, refuse_with, Answer, Place, BAD_STATE};
+use crate::refusal::{LAST_DIGEST, LINK, ROW};
 use crate::store::Log;
 use crate::{Digest, LIMIT};
 
@@ -60,28 +61,37 @@ pub fn in_order<H: Hash>(held: &Held) -> Answer<()> {
     Ok(())
 }
 
-/// One hop of the held state: "A hop of level l from j reads the component of j + 2^l." The refusal
-/// is its number alone.
-fn hop<H: Hash>(held: &Held, level: u32, component: &[u8]) -> Result<Held, u64> {
-    let rows = carried(held, level, component)?;
-    if link(component, level) != held.digest {
-        return Err(LINK);
-    }
+/// How a component was found bad, and where: "Reading one component must answer which element and
+/// which level failed, for basis and link alike".
+struct Broken {
+    number: u64,
+    place: Place,
+}
+
+/// One hop of the held state: "A hop of level l from j reads the component of j + 2^l." The place of
+/// a refusal is "the element reached, and the row for 9 or the level hopped for 10".
+fn hop<H: Hash>(held: &Held, level: u32, component: &[u8]) -> Result<Held, Broken> {
     let count = held.count + (1 << level);
+    let broken = |number, level| Broken { number, place: Place { element: count, level } };
+    let rows = carried(held, level, component).map_err(|row| broken(ROW, row as u64))?;
+    if link(component, level) != held.digest {
+        return Err(broken(LINK, level.into()));
+    }
     let digest = element_digest::<H>(count, component);
     Ok(Held { log: held.log, count, digest, rows })
 }
 
 /// The basis after a hop. "If row l is free it takes T(j). Otherwise, from c = l upward while row c
 /// is in use, row c must equal the component's link of level c + 1; the last such value moves to
-/// the first free row and the others become zero."
-fn carried(held: &Held, level: u32, component: &[u8]) -> Result<[Digest; ROWS], u64> {
+/// the first free row and the others become zero." The error is the first row c that differs, which
+/// is the lowest.
+fn carried(held: &Held, level: u32, component: &[u8]) -> Result<[Digest; ROWS], usize> {
     let mut rows = held.rows;
     let mut moving = held.digest;
     let mut row = level as usize;
     while in_use(held.count, row) {
         if link(component, row as u32 + 1) != rows[row] {
-            return Err(ROW);
+            return Err(row);
         }
         moving = rows[row];
         rows[row] = [0; 32];
@@ -92,7 +102,8 @@ fn carried(held: &Held, level: u32, component: &[u8]) -> Result<[Digest; ROWS], 
 }
 
 /// "The last digest computed must be the one claimed." Acceptance gives the hops and the new state;
-/// "any refusal hands back the old", which here stays with the caller.
+/// "any refusal hands back the old", which here stays with the caller. Where a hop broke, "every
+/// checker above it passes that on".
 ///
 /// "Advancing to the same n takes an empty proof and needs the claimed digest to be the held one,
 /// else 11."
@@ -110,7 +121,7 @@ pub fn check_advancement<H: Hash>(
         let level = hop_level(state.count, n);
         state = match hop::<H>(&state, level, component) {
             Ok(next) => next,
-            Err(number) => return refuse_with(number, hops),
+            Err(broken) => return refuse_at(broken.number, hops, broken.place),
         };
         hops += 1;
     }

@@ -15,7 +15,7 @@ pub fn line<H: Hash>(input: &[u8]) -> String {
     }
     match audit::<H>(input) {
         Ok(count) => format!("sound {}\n", count),
-        Err(Refusal { number: WRONG_ELEMENT, beside }) => format!("wrong {}\n", beside),
+        Err(Refusal { number: WRONG_ELEMENT, beside, .. }) => format!("wrong {}\n", beside),
         Err(Refusal { number, .. }) => format!("refused {}\n", number),
     }
 }

@@ -3,8 +3,8 @@
 use crate::hash::Hash;
 use crate::message::{element_digest, entry_digest};
 use crate::path::{self, component_length, proof_length};
-use crate::refusal::{refuse, refuse_with, Answer, FIRST_D, LAST_DIGEST, LINK, OUTPUT_SHORT};
-use crate::refusal::{PROOF_LENGTH, TOO_LONG};
+use crate::refusal::{refuse, refuse_at, refuse_with, Answer, Place, FIRST_D, LAST_DIGEST, LINK};
+use crate::refusal::{OUTPUT_SHORT, PROOF_LENGTH, TOO_LONG};
 use crate::store::Log;
 use crate::{Digest, ENTRY_MOST};
 
@@ -63,7 +63,8 @@ pub fn link(component: &[u8], level: u32) -> &[u8] {
 
 /// "Checking membership takes entry, i, n, digest and proof. The first d must be the entry's, each
 /// next component's link of the level hopped must equal the digest computed before it, and the last
-/// computed must be the one given." Acceptance gives the number of hops.
+/// computed must be the one given." Acceptance gives the number of hops. A link that differs is told
+/// with "the element reached" and "the level hopped".
 pub fn check_membership<H: Hash>(
     entry: &[u8],
     i: u64,
@@ -83,7 +84,8 @@ pub fn check_membership<H: Hash>(
     for hop in 1..elements.len() {
         let level = path::hop_level(elements[hop - 1], n);
         if link(parts[hop], level) != computed {
-            return refuse_with(LINK, hop as u64 - 1);
+            let place = Place { element: elements[hop], level: level.into() };
+            return refuse_at(LINK, hop as u64 - 1, place);
         }
         computed = element_digest::<H>(elements[hop], parts[hop]);
     }

@@ -3,7 +3,7 @@
 //! 1 to 13 are document 01's. "New refusals, here and later, take the next free numbers in the
 //! order named", says document 02, A1, and names 14 to 17; A4 names 18 to 22.
 
-/// A refused call: its number in the table, and the number returned beside it.
+/// A refused call: its number in the table, the number returned beside it, and where a proof broke.
 ///
 /// "Numbers returned beside a refusal are 0, except the hop count with 10 and 11, the hops good
 /// before a 9, the element of 12, and the 1 or 2 of 13".
@@ -11,7 +11,20 @@
 pub struct Refusal {
     pub number: u64,
     pub beside: u64,
+    pub place: Place,
 }
+
+/// Where a proof broke. "Refusals 9 and 10 in 01 gain these two numbers: the element reached, and
+/// the row for 9 or the level hopped for 10", says document 02, A5. The basis has a row for each
+/// level, so the row is a level too.
+#[derive(Debug, Clone, Copy, PartialEq, Eq)]
+pub struct Place {
+    pub element: u64,
+    pub level: u64,
+}
+
+/// "All other refusals, 13 too, show 0 there."
+pub const NOWHERE: Place = Place { element: 0, level: 0 };
 
 /// What a call answers: its value, or its refusal.
 pub type Answer<T> = Result<T, Refusal>;
@@ -70,5 +83,10 @@ pub fn refuse<T>(number: u64) -> Answer<T> {
 
 /// A refusal with a number beside it.
 pub fn refuse_with<T>(number: u64, beside: u64) -> Answer<T> {
-    Err(Refusal { number, beside })
+    Err(Refusal { number, beside, place: NOWHERE })
+}
+
+/// A refusal with 9 or 10: the hops good before it, and where the proof broke.
+pub fn refuse_at<T>(number: u64, hops: u64, place: Place) -> Answer<T> {
+    Err(Refusal { number, beside: hops, place })
 }

@@ -3,13 +3,13 @@
 
 use crate::hash::{Hash, Sha256, Xor};
 use crate::held::{held_at, held_start, Held, ROWS};
-use crate::refusal::Refusal;
+use crate::refusal::{Refusal, NOWHERE};
 use crate::saved::{file_length, file_of, read, write, FILE_LEAST, FILE_MOST};
 use crate::store::store_of;
 use crate::{Digest, LIMIT};
 
 fn refused<T>(number: u64) -> Result<T, Refusal> {
-    Err(Refusal { number, beside: 0 })
+    Err(Refusal { number, beside: 0, place: NOWHERE })
 }
 
 /// A state of log 7 whose used rows and digest are made up.

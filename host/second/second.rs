@@ -1,4 +1,4 @@
-//! The second program: documents 01 and 02 (A1, A2, A4) written down once more, from their text
+//! The second program: documents 01 and 02 (A1, A2, A4, A5) written down once more, from their text
 //! alone. A3 changes nothing that is seen.
 //!
 //! It shares no code with the proved crates and follows another plan: it parses a proof into its
@@ -6,8 +6,9 @@
 //! level from the leaves up, and answers with `Result`. The comparisons in `host/compare` hold
 //! every call of the proved library to it.
 //!
-//! Words in quotation marks are sentences of document 01, and in [`trie`] and [`saved`] of document
-//! 02. Every call is generic over the hash, so that the stand-in can take the place of SHA-256.
+//! Words in quotation marks are sentences of document 01, and in [`trie`] and [`saved`], and where a
+//! proof broke, of document 02. Every call is generic over the hash, so that the stand-in can take
+//! the place of SHA-256.
 
 pub mod dispute;
 pub mod hash;
@@ -21,6 +22,8 @@ pub mod saved;
 pub mod store;
 pub mod trie;
 
+#[cfg(test)]
+mod place_tests;
 #[cfg(test)]
 mod saved_tests;
 #[cfg(test)]

@@ -7,7 +7,7 @@ use crate::message::{element_digest, entry_digest, start_digest};
 use crate::path::{advancement, component_length, membership, proof_length, trailing_zeros};
 use crate::program::{line, INPUT_MOST};
 use crate::proof::{build_advancement, build_membership, check_membership};
-use crate::refusal::Refusal;
+use crate::refusal::{Place, Refusal, NOWHERE};
 use crate::store::{
     append, audit, count, digest_at, place, start, store_of, HEADER, RECORD, STATE,
 };
@@ -15,8 +15,13 @@ use crate::{Digest, ENTRY_MOST, LIMIT};
 
 const WHOLE: u64 = RECORD as u64;
 
-fn refused<T>(number: u64, beside: u64) -> Result<T, Refusal> {
-    Err(Refusal { number, beside })
+pub fn refused<T>(number: u64, beside: u64) -> Result<T, Refusal> {
+    Err(Refusal { number, beside, place: NOWHERE })
+}
+
+/// A refusal with 9 or 10 after so many good hops, at an element, and a row of 9 or a level of 10.
+pub fn broken<T>(number: u64, hops: u64, element: u64, level: u64) -> Result<T, Refusal> {
+    Err(Refusal { number, beside: hops, place: Place { element, level } })
 }
 
 fn digest_of_hex(hex: &str) -> Digest {
@@ -28,23 +33,23 @@ fn digest_of_hex(hex: &str) -> Digest {
 }
 
 /// The entry of element j in the logs of these tests: some empty, all of them different.
-fn entry(j: u64) -> Vec<u8> {
+pub fn entry(j: u64) -> Vec<u8> {
     vec![j as u8; j as usize % 50]
 }
 
 /// A full store of log 7.
-fn log7<H: Hash>(elements: u64) -> Vec<u8> {
+pub fn log7<H: Hash>(elements: u64) -> Vec<u8> {
     store_of::<H>(7, elements, (1..=elements).map(entry))
 }
 
-fn membership_proof<H: Hash>(store: &[u8], i: u64, n: u64) -> Vec<u8> {
+pub fn membership_proof<H: Hash>(store: &[u8], i: u64, n: u64) -> Vec<u8> {
     let mut out = vec![0; 20_000];
     let length = build_membership::<H>(store, i, n, &mut out).expect("built");
     out.truncate(length as usize);
     out
 }
 
-fn advancement_proof<H: Hash>(store: &[u8], i: u64, n: u64) -> Vec<u8> {
+pub fn advancement_proof<H: Hash>(store: &[u8], i: u64, n: u64) -> Vec<u8> {
     let mut out = vec![0; 20_000];
     let length = build_advancement::<H>(store, i, n, &mut out).expect("built");
     out.truncate(length as usize);
@@ -329,8 +334,8 @@ fn membership_refusals() {
     assert_eq!(check(&entry(6), 5, 12, &digest, &proof), refused(8, 0));
     // The link of 8 to 6 has level 1: it follows the components of 5 and 6, d and the link of level
     // 0.
-    assert_eq!(check(&entry(5), 5, 12, &digest, &damaged(64 + 96 + 64)), refused(10, 1));
-    assert_eq!(check(&entry(5), 5, 12, &digest, &damaged(64 + 96)), refused(10, 2));
+    assert_eq!(check(&entry(5), 5, 12, &digest, &damaged(64 + 96 + 64)), broken(10, 1, 8, 1));
+    assert_eq!(check(&entry(5), 5, 12, &digest, &damaged(64 + 96)), broken(10, 2, 12, 2));
     assert_eq!(check(&entry(5), 5, 12, &[0; 32], &proof), refused(11, 3));
 }
 
@@ -390,10 +395,10 @@ fn advancement_refusals() {
     assert_eq!(check(&held, 12, &digest, &proof[32..]), refused(7, 0));
     // Of the component of 8, the link of level 0 is the one hopped and those of level 1 to 3 are
     // rows.
-    assert_eq!(check(&held, 12, &digest, &damaged(32)), refused(10, 0));
-    assert_eq!(check(&held, 12, &digest, &damaged(64)), refused(9, 0));
-    assert_eq!(check(&held, 12, &digest, &damaged(128)), refused(9, 0));
-    assert_eq!(check(&held, 12, &digest, &damaged(0)), refused(10, 1));
+    assert_eq!(check(&held, 12, &digest, &damaged(32)), broken(10, 0, 8, 0));
+    assert_eq!(check(&held, 12, &digest, &damaged(64)), broken(9, 0, 8, 0));
+    assert_eq!(check(&held, 12, &digest, &damaged(128)), broken(9, 0, 8, 2));
+    assert_eq!(check(&held, 12, &digest, &damaged(0)), broken(10, 1, 12, 2));
     assert_eq!(check(&held, 12, &[0; 32], &proof), refused(11, 2));
     assert_eq!(check(&held, 7, &held.digest, &[]), Ok(0));
     assert_eq!(check(&held, 7, &digest, &[]), refused(11, 0));

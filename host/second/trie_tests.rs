@@ -2,7 +2,7 @@
 //! crafted clashes under the stand-in.
 
 use crate::hash::{Hash, Sha256, Xor};
-use crate::refusal::Refusal;
+use crate::refusal::{Refusal, NOWHERE};
 use crate::trie::{
     check_absence, check_presence, clash, handle, prove, prove_absence, prove_presence, root, Kind,
     Shown, CLASH_LEAST, DEPTH, EMPTY, HANDLES_MOST, PROOF_MOST,
@@ -10,7 +10,7 @@ use crate::trie::{
 use crate::{Digest, ENTRY_MOST};
 
 fn refused<T>(number: u64, beside: u64) -> Result<T, Refusal> {
-    Err(Refusal { number, beside })
+    Err(Refusal { number, beside, place: NOWHERE })
 }
 
 /// Lots by number: all of them different.

@@ -5,5 +5,5 @@ use compare::{advance, both::Both, library::Library, Scale};
 fn main() {
     let mut both = Both::<Library>::default();
     advance::run(&mut both, Scale::Full);
-    println!("{} calls agree", both.calls);
+    println!("{} calls agree, {} of them as told beforehand", both.calls, both.told);
 }

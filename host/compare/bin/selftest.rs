@@ -5,7 +5,8 @@ use std::panic;
 
 use compare::both::Both;
 use compare::faulty::{self, Faulty};
-use compare::{advance, hash, member, saved, store, trie, whole, Scale};
+use compare::{advance, hash, member, places, saved, store, trie, whole, Scale};
+use lotlog::{Answer, Place};
 
 const SEED: u64 = 4;
 const CALLS: u64 = 20_000;
@@ -25,8 +26,24 @@ fn noticed(run: impl FnOnce() + panic::UnwindSafe) -> bool {
     panic::catch_unwind(run).is_err()
 }
 
-fn main() {
-    let mut both = Both::<Faulty<{ faulty::NO_FAULT }>>::default();
+/// The words for an answer say where a proof broke, and for no other number a place.
+fn words() {
+    let answer = |number, beside| Answer { number, beside };
+    let place = Some(Place { element: 8, level: 1 });
+    for (answer, place, words) in [
+        (answer(9, [0, 8, 1]), place, "basis row differs at element 8, row 1"),
+        (answer(10, [1, 8, 1]), place, "link differs at element 8, level 1"),
+        (answer(11, [3, 0, 0]), None, "last digest differs"),
+        (answer(13, [1, 0, 0]), None, "proof not accepted"),
+        (answer(0, [3, 0, 0]), None, "done"),
+    ] {
+        assert_eq!((answer.place(), answer.meaning().as_str()), (place, words));
+    }
+}
+
+/// A copy with no fault agrees with the second program in every group.
+fn agreed() -> Both<Faulty<{ faulty::NO_FAULT }>> {
+    let mut both = Both::default();
     hash::run(&mut both, Scale::Small);
     store::run(&mut both, Scale::Small);
     member::run(&mut both, Scale::Small);
@@ -34,15 +51,42 @@ fn main() {
     saved::run(&mut both, Scale::Small);
     trie::run(&mut both, Scale::Small);
     whole::run(&mut both, SEED, CALLS);
-    panic::set_hook(Box::new(|_| ()));
-    let unnoticed = unnoticed! {
+    told_of_members::run(&mut both, Scale::Small);
+    told_of_steps::run(&mut both, Scale::Small);
+    both
+}
+
+/// The faults of proofs, and of where they broke, that are not noticed.
+fn unnoticed_of_proofs() -> Vec<&'static str> {
+    unnoticed! {
+        member: CLEARS_PAST_THE_PROOF IGNORES_A_TAIL TAKES_ANY_ENTRY NO_HOPS_WITH_11
+            NAMES_THE_SECOND_PROOF DIFFERING_NEAREST_I NAMES_THE_ELEMENT_LEFT LEVEL_ONE_MORE
+            LEVEL_OF_THE_ELEMENT_LEFT ELEMENT_AND_LEVEL_SWAPPED NAMES_THE_LAST_BAD_HOP
+            NO_PLACE_WITH_10 PLACE_WHEN_ACCEPTED PLACE_WITH_7 PLACE_WITH_8 PLACE_WITH_11
+            PLACE_WITH_13;
+        advance: FORGETS_THE_TOP_ROW NEVER_CHECKS_ROWS KEEPS_A_REFUSED_DIGEST ADVANCES_ONLY_FROM_1
+            NAMES_THE_ELEMENT_LEFT LEVEL_ONE_MORE LEVEL_OF_THE_ELEMENT_LEFT NAMES_THE_LINK_OF_A_ROW
+            LEVEL_HOPPED_WITH_9 NAMES_THE_HIGHEST_ROW ELEMENT_AND_LEVEL_SWAPPED
+            NAMES_THE_LAST_BAD_HOP NO_PLACE_WITH_9 NO_PLACE_WITH_10 PLACE_WHEN_ACCEPTED
+            PLACE_WITH_2 PLACE_WITH_7 PLACE_WITH_11;
+        told_of_members: NO_HOPS_WITH_11 NAMES_THE_SECOND_PROOF NAMES_THE_ELEMENT_LEFT
+            LEVEL_ONE_MORE LEVEL_OF_THE_ELEMENT_LEFT ELEMENT_AND_LEVEL_SWAPPED
+            NAMES_THE_LAST_BAD_HOP NO_PLACE_WITH_10 PLACE_WHEN_ACCEPTED PLACE_WITH_7 PLACE_WITH_8
+            PLACE_WITH_11 PLACE_WITH_13;
+        told_of_steps: NEVER_CHECKS_ROWS KEEPS_A_REFUSED_DIGEST NAMES_THE_ELEMENT_LEFT
+            LEVEL_ONE_MORE LEVEL_OF_THE_ELEMENT_LEFT NAMES_THE_LINK_OF_A_ROW LEVEL_HOPPED_WITH_9
+            NAMES_THE_HIGHEST_ROW ELEMENT_AND_LEVEL_SWAPPED NAMES_THE_LAST_BAD_HOP NO_PLACE_WITH_9
+            NO_PLACE_WITH_10 PLACE_WHEN_ACCEPTED PLACE_WITH_2 PLACE_WITH_7 PLACE_WITH_11;
+    }
+}
+
+/// The other faults that are not noticed.
+fn unnoticed_of_others() -> Vec<&'static str> {
+    unnoticed! {
         hash: PADDING_AT_55_BYTES HASHES_TOO_MUCH MISSES_A_LAST_BIT;
         store: STARTS_PAST_CAPACITY TAKES_ANY_STATE_BYTE CLOSES_TOO_EARLY STOP_WRAPS
             COUNT_BESIDE_A_REFUSAL SKIPS_EMPTY_ENTRIES NO_DIGEST_AT_0 AUDIT_NAMES_THE_LAST
             OPEN_IS_ZERO ZERO_IS_OPEN_TOO STARTS_WITH_ZEROS;
-        member: CLEARS_PAST_THE_PROOF IGNORES_A_TAIL TAKES_ANY_ENTRY NO_HOPS_WITH_11
-            NAMES_THE_SECOND_PROOF DIFFERING_NEAREST_I;
-        advance: FORGETS_THE_TOP_ROW NEVER_CHECKS_ROWS KEEPS_A_REFUSED_DIGEST ADVANCES_ONLY_FROM_1;
         saved: ROWS_HIGHEST_FIRST ALL_ROWS_WRITTEN ROW_BY_ITS_CONTENTS LAST_ROW_LEFT_OUT
             COUNT_LITTLE_ENDIAN CLEARS_BEHIND_THE_FILE WRITES_ANY_STATE WRITES_OVER_THE_LIMIT
             WRITES_ANY_LAST_ROW WRITES_ANY_START ROOM_BEFORE_THE_STATE LENGTH_BESIDE_6
@@ -59,13 +103,21 @@ fn main() {
             ABSENCE_NEEDS_A_SIBLING PART_OF_A_SIBLING_IGNORED NAMES_THE_ABSENCE
             PROOFS_BEFORE_THE_BUFFERS;
         everything: PADDING_AT_55_BYTES CLOSES_TOO_EARLY IGNORES_A_TAIL NEVER_CHECKS_ROWS
-            ROWS_HIGHEST_FIRST TAIL_OF_A_FILE_IGNORED TAKES_ANY_ROOT;
-    };
+            ROWS_HIGHEST_FIRST TAIL_OF_A_FILE_IGNORED TAKES_ANY_ROOT NAMES_THE_LINK_OF_A_ROW;
+    }
+}
+
+fn main() {
+    words();
+    let Both { calls, told, .. } = agreed();
+    panic::set_hook(Box::new(|_| ()));
+    let unnoticed = [unnoticed_of_proofs(), unnoticed_of_others()].concat();
     if !unnoticed.is_empty() {
         eprintln!("faults that were not noticed: {}", unnoticed.join(", "));
         std::process::exit(1);
     }
-    println!("{} calls of a copy agree, every fault is noticed", both.calls);
+    let agreed = format!("{} calls of a copy agree, {} of them as told beforehand", calls, told);
+    println!("{}, every fault is noticed", agreed);
 }
 
 /// The group `whole` in the shape of the others.
@@ -78,5 +130,33 @@ mod everything {
         C: HashCalls + StoreCalls + MemberCalls + AdvanceCalls + SavedCalls + TrieCalls,
     {
         whole::run(both, SEED, CALLS);
+    }
+}
+
+/// What is told beforehand of broken proofs, with the second program nowhere: one copy on both sides,
+/// so that what is told must notice the fault.
+mod told_of_members {
+    use super::*;
+    use compare::calls::MemberCalls;
+    use compare::logs::sound;
+    use compare::member::Claim;
+
+    pub fn run<C: MemberCalls>(_: &mut Both<C>, scale: Scale) {
+        let mut alone = Both::<C, C>::default();
+        places::run::<Claim, C, C>(&mut alone, &sound(300, 0), scale);
+        places::disputes(&mut alone, scale);
+    }
+}
+
+/// The same of steps.
+mod told_of_steps {
+    use super::*;
+    use compare::advance::Step;
+    use compare::calls::AdvanceCalls;
+    use compare::logs::sound;
+
+    pub fn run<C: AdvanceCalls>(_: &mut Both<C>, scale: Scale) {
+        let mut alone = Both::<C, C>::default();
+        places::run::<Step, C, C>(&mut alone, &sound(300, 0), scale);
     }
 }
