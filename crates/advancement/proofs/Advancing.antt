@@ -24,7 +24,7 @@ use Rattle.rules.specs.Bounds.{total-first, total-after-step}
 use Rattle.rules.specs.Walking.{advance-walk-end}
 use Rattle.held.specs.declared.Rows.{Rows}
 use Rattle.held.specs.declared.Rows.the-variants.{Agree, Differ}
-use Rattle.held.specs.Rows.{rowsSay, said-is}
+use Rattle.held.specs.Rows.{rowsSay}
 use Rattle.advancement.specs.declared.Hop.{Hop}
 use Rattle.advancement.specs.declared.Hop.the-variants.{Good, Row, Link}
 use Rattle.messages.specs.Parts.{part-length}
@@ -58,10 +58,10 @@ hopAt n p h o = hopOf h (level (h .count) n) (part v1 p o (toward h n))
 -- the walk by it
 next-hop : (n : ℕ) (p D : Bytes) (h : Held) (o k : ℕ) → h .count < n → advanceWalk hashOf v1 h (hops (h .count) n) p o D k
     ≡ judged (hopAt n p h o .verdict) k (advanceWalk hashOf v1 (hopAt n p h o .state) (hops (toward h n) n) p (o + size v1 (toward h n)) D (suc k))
-unfolding advanceWalk hopOf judged
+unfolding advanceWalk hopOf judged rowsSay
 next-hop n p D h o k b =
     ap (λ (ls : List ℕ). advanceWalk hashOf v1 h ls p o D k) (hops-step (h .count) n b)
-    ∙ rw (said-is (drop l (h .rows)) l (h .count / 2 ^ l) x) (go (agrees v1 l (h .count / 2 ^ l) (drop l (h .rows)) x) (same (row v1 x (suc l)) (h .digest)))
+    ∙ go (agrees v1 l (h .count / 2 ^ l) (drop l (h .rows)) x) (same (row v1 x (suc l)) (h .digest))
   where
     l : ℕ
     l = level (h .count) n

@@ -16,7 +16,7 @@ use Rattle.rules.specs.Numbers.{v1}
 use Rattle.rules.specs.Paths.{tz}
 use Rattle.rules.specs.Messages.{row}
 use Rattle.rules.specs.Held.{odd, freeZero}
-use Rattle.rules.specs.Checking.{carried}
+use Rattle.rules.specs.Checking.{agrees, offRow, carried}
 use Rattle.rules.specs.Hops.{tz-max}
 use Rattle.rules.specs.Parity.{is-odd, half-pow}
 use Rattle.held.specs.declared.Rows.the-variants.{Agree, Differ}
@@ -66,13 +66,21 @@ module _ (rs : List Bytes) (c : ℕ) (b : c < length rs) where
   free-turn q = rw first
 
   pub say-free : (q : ℕ) (x : Bytes) → odd q ≡ false → rowsSay c q (drop c rs) x ≡ Agree
-  unfolding rowsSay
+  unfolding rowsSay agrees
   say-free q x e = rw (first, e)
 
   say-used : (q : ℕ) (x : Bytes) (b : Bool) → odd q ≡ true → same (getD rs c []) (row v1 x (suc (suc c))) ≡ b
       → rowsSay c q (drop c rs) x ≡ cond b (rowsSay (c + 1) (q / 2) (drop (c + 1) rs) x) (Differ c)
-  unfolding rowsSay
-  say-used q x b e d = rw (first, e, d, add-one)
+  unfolding rowsSay agrees offRow
+  say-used q x b e d = rw (first, e, d, add-one) (go b)
+    where
+      rest : List Bytes
+      rest = drop (suc c) rs
+
+      go : (t : Bool) → cond (t && agrees v1 (suc c) (q / 2) rest x) Agree (Differ (cond t (offRow v1 (suc c) rest x) c))
+          ≡ cond t (cond (agrees v1 (suc c) (q / 2) rest x) Agree (Differ (offRow v1 (suc c) rest x))) (Differ c)
+      go true = refl
+      go false = refl
 
   pub carry-stop : (q : ℕ) (t : Bytes) → odd q ≡ false → carriedFrom c q rs t ≡ set rs c t
   unfolding carried
@@ -126,7 +134,7 @@ module _ (rs : List Bytes) (c : ℕ) (b : length rs ≤ c) where
   free-end q = rw none
 
   pub say-end : (q : ℕ) (x : Bytes) → rowsSay c q (drop c rs) x ≡ Agree
-  unfolding rowsSay
+  unfolding rowsSay agrees
   say-end q x = rw none
 
   pub carry-end : (q : ℕ) (t : Bytes) → carriedFrom c q rs t ≡ rs
