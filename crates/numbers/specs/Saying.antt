@@ -1,7 +1,7 @@
 -- 01's number, the one that goes with it and 02's place (A5), as the code has them.
 use mathlib.Core.Path.{_≡_, ap₂, _∙_}
 use Prim.Native.Nat.{ℕ}
-use Rattle.rules.specs.Checking.{Place, place}
+use Rattle.rules.specs.Checking.{place}
 use Rattle.rules.specs.Calls.{Answer}
 use Rattle.numbers.specs.declared.Said.{Said}
 
