@@ -1,5 +1,5 @@
 -- The walk's loop: what is left decides. `Stands` is its invariant; a good hop keeps it, a bad hop and the end settle the verdict.
-use mathlib.Core.Path.{_≡_, sym, ap, _∙_}
+use mathlib.Core.Path.{_≡_, refl, sym, ap, _∙_}
 use mathlib.Core.Bool.{Bool, true, false}
 use mathlib.Core.List.{List}
 use Prim.Native.Nat.{ℕ, suc, _+_, _≤_, _<_}
@@ -7,20 +7,24 @@ use native.Mathlib.Numerals.{add-one}
 use native.Mathlib.Omega.{arith}
 use lib.Pow.{pow-pos}
 use lib.ListN.{length}
+use denote.Enum.Declared.{tagOf}
 use Rattle.lists.specs.Bytes.{Bytes, same}
 use Rattle.hash.specs.Hash.{hashOf}
 use Rattle.rules.specs.Numbers.{v1}
 use Rattle.rules.specs.Paths.{level, hops, path}
 use Rattle.rules.specs.Messages.{size, total}
 use Rattle.rules.specs.Refusals.{linkDiffers, digestDiffers}
-use Rattle.rules.specs.Checking.{Place, place, Verdict as Judged, accepted, refused, mustAt, must, walk}
+use Rattle.rules.specs.Checking.{place, Verdict as Judged, accepted, mustAt, must, walk}
 use Rattle.rules.specs.Hops.{level-hop, hops-step}
 use Rattle.rules.specs.Bounds.{total-step, total-first}
 use Rattle.rules.specs.Walking.{walk-end}
 use Rattle.membership.specs.declared.Walk.{Walk}
-use Rattle.membership.specs.declared.Hop.the-variants.{Good, Link}
+use Rattle.membership.specs.declared.Hop.{Hop}
+use Rattle.membership.specs.declared.Hop.the-variants.{Good}
 use Rattle.membership.specs.declared.Hopped.{Hopped}
-use Rattle.membership.specs.Hopping.{levelHere, toHere, linkHolds, onward, hopOf, hop-good, good-test, link-test}
+use Rattle.membership.specs.Hopping.{levelHere, toHere, linkHolds, onward, hopOf, hop-good, hop-bad, good-test, verdictBy}
+use Rattle.membership.specs.Verdicts.{verdictOf}
+use Rattle.membership.proofs.Hop.{the-type}
 
 -- the verdict of the walk from where it stands, with k hops good
 abbrev pub verdictFrom : ℕ → Bytes → Bytes → Walk → ℕ → Judged ℕ
@@ -46,10 +50,17 @@ module _ (n : ℕ) (p D : Bytes) (w₀ w : Walk) (k : ℕ) (s : Stands n p D w�
         ∙ ap (λ (x : Bool). mustAt (place (toHere p n w) (levelHere p n w)) x linkDiffers k (verdictFrom n p D (onward p n w) (suc k))) e
 
     module _ (r : Hopped) (e : r ≡ hopOf p n w) where
-      pub refuses : (j l : ℕ) → r .verdict ≡ Link j l → refused linkDiffers k (place j l) ≡ verdictFrom n p D w₀ 0
-      refuses j l v =
-          let t = link-test p n w j l (sym (ap (λ (y : Hopped). y .verdict) e) ∙ v) in
-          ap (λ (x : Place). refused linkDiffers k x) (t .1) ∙ sym (step false (t .0))
+      -- a bad hop decides
+      pub refuses : tagOf the-type (r .verdict) ≡ 1 → verdictOf (verdictBy (r .verdict) k) ≡ verdictFrom n p D w₀ 0
+      unfolding verdictOf
+      refuses t = go (linkHolds p n w) refl
+        where
+          told : {x : Hopped} → hopOf p n w ≡ x → r .verdict ≡ x .verdict
+          told f = ap (λ (y : Hopped). y .verdict) (e ∙ f)
+
+          go : (b : Bool) → linkHolds p n w ≡ b → verdictOf (verdictBy (r .verdict) k) ≡ verdictFrom n p D w₀ 0
+          go true f = absurd (let z : tagOf the-type (r .verdict) ≡ 0 = ap (tagOf the-type) (told (hop-good p n w f)) in omega (arith, t))
+          go false f = ap (λ (v : Hop). verdictOf (verdictBy v k)) (told (hop-bad p n w f)) ∙ sym (step false f)
 
       pub goes-on : r .verdict ≡ Good → Stands n p D w₀ (r .state) (k + 1) × (w .at .0 < r .state .at .0)
       goes-on v =

@@ -1,5 +1,5 @@
 -- One hop of a walk, as the code takes it: on to the next element, or the link that differs.
-use mathlib.Core.Path.{_≡_, refl, sym, ap, ap₂, _∙_}
+use mathlib.Core.Path.{_≡_, refl}
 use mathlib.Core.Bool.{Bool, true, false, cond}
 use Prim.Native.Nat.{ℕ, suc, _+_, _^_}
 use native.Mathlib.Omega.{arith}
@@ -8,10 +8,13 @@ use Rattle.hash.specs.Hash.{hashOf}
 use Rattle.rules.specs.Numbers.{v1}
 use Rattle.rules.specs.Paths.{level}
 use Rattle.rules.specs.Messages.{size, row, part}
-use Rattle.rules.specs.Checking.{place, digestAt}
+use Rattle.rules.specs.Checking.{digestAt}
 use Rattle.membership.specs.declared.Walk.{Walk}
+use Rattle.membership.specs.declared.Hop.{Hop}
 use Rattle.membership.specs.declared.Hop.the-variants.{Good, Link}
 use Rattle.membership.specs.declared.Hopped.{Hopped}
+use Rattle.membership.specs.declared.Verdict.{Verdict}
+use Rattle.membership.specs.declared.Verdict.the-variants.{Accepted, LinkDiffers}
 
 module _ (p : Bytes) (n : ℕ) (w : Walk) where
   -- the level hopped, and where the hop ends
@@ -50,11 +53,7 @@ module _ (p : Bytes) (n : ℕ) (w : Walk) where
       go true e = refl
       go false e = let f = hop-bad e in absurd (let z : _≡_ {A = ℕ} 0 1 = cc in omega arith)
 
-  pub link-test : (j l : ℕ) → hopOf .verdict ≡ Link j l → (linkHolds ≡ false) × (place j l ≡ place toHere levelHere)
-  link-test j l h = go linkHolds refl
-    where
-      go : (b : Bool) → linkHolds ≡ b → (linkHolds ≡ false) × (place j l ≡ place toHere levelHere)
-      go true e = let f = hop-good e in absurd (let z : _≡_ {A = ℕ} 0 1 = cc in omega arith)
-      go false e =
-          let f : Link j l ≡ Link toHere levelHere = sym h ∙ ap (λ (r : Hopped). r .verdict) (hop-bad e) in
-          (e, ap₂ place (cc) (cc))
+-- what a hop's verdict says of the check, with k hops good before it
+abbrev pub verdictBy : Hop → ℕ → Verdict
+verdictBy Good k = Accepted k
+verdictBy (Link j l) k = LinkDiffers k j l

@@ -8,7 +8,7 @@ ghost use Rattle.rules.specs.Paths.{level, hops, path};
 ghost use Rattle.rules.specs.Messages.{size, total};
 ghost use Rattle.rules.specs.Checking.{isAccepted, walk, member};
 ghost use Rattle.membership.specs.Verdicts.{verdictOf};
-ghost use Rattle.membership.specs.Hopping.{hopOf};
+ghost use Rattle.membership.specs.Hopping.{hopOf, verdictBy};
 use hash::Digest;
 use messages::component_at;
 use messages::row_is;
@@ -86,6 +86,20 @@ fn take_hop(w: Walk, n: Length, proof: &[u8]) -> Hopped
     }
 }
 
+// What a hop's verdict says of the check, with the hops found good before it.
+fn verdict_by(v: Hop, hops: u64) -> Verdict
+    ensures { λ r. ⌜ r ≡ verdictBy v hops ⌝ }
+{
+    match v {
+        Hop::Good => Verdict::Accepted { hops: hops },
+        Hop::Link { element, level } => Verdict::LinkDiffers {
+            hops: hops,
+            element: element,
+            level: level,
+        },
+    }
+}
+
 // The walk from i to n, the first bad hop deciding, and then the last digest.
 fn follow(start: Walk, n: Length, digest: Digest, proof: &[u8]) -> Verdict
     requires { ⌜ (start .at .0 ≤ n .0) × (start .next + total v1 (path (start .at .0) (n .0)) ≡ length (now proof) + size v1 (start .at .0)) ⌝ }
@@ -96,13 +110,9 @@ fn follow(start: Walk, n: Length, digest: Digest, proof: &[u8]) -> Verdict
     while state.at.0 < n.0 {
         let r = take_hop(state, n, proof);
         let v = r.verdict;
-        if let Hop::Link { element, level } = v {
-            return Verdict::LinkDiffers {
-                hops: good,
-                element: element,
-                level: level,
-            };
-        }
+        let Hop::Good = v else {
+            return verdict_by(v, good);
+        };
         state = r.state;
         good += 1;
     }

@@ -1,5 +1,5 @@
 -- `membership::follow` meets its contract: the loop's invariant is `Stands`, what is left of the walk decides.
-use mathlib.Core.Path.{refl, sym, _∙_}
+use mathlib.Core.Path.{refl, sym, ap, _∙_}
 use Prim.Native.Nat.{_+_, _-_, _<_}
 use native.Mathlib.Omega.{arith}
 use borrow.Author.Needs.{needs}
@@ -24,19 +24,21 @@ take-hop-requires c κs =
     let l = c .before .before .before .loop in
     (c .if1 .taken, room _ _ _ _ (l .state) (l .good) (l .inv) (c .if1 .taken))
 
-enum-known-v : tie.Need-enum-known-v Inv-loop μ-loop
-enum-known-v c = search needs
+enum-told : tie.Need-enum-told Inv-loop μ-loop
+enum-told c = c .match .keys1
+
+enum-told-2 : tie.Need-enum-told-2 Inv-loop μ-loop
+enum-told-2 c = c .match .keys2
+
+verdict-by-requires : tie.Need-verdict-by-requires Inv-loop μ-loop
+verdict-by-requires c κs = search needs
 
 returns : tie.Need-returns Inv-loop μ-loop
-unfolding verdictOf
 returns c =
     let l = c .before .before .before .before .before .before .before .loop in
     let r = c .before .before .before .take-hop in
-    let v = c .before .v .given in
-    refuses _ _ _ _ (l .state) (l .good) (l .inv) (c .before .before .before .before .if1 .taken) (r .result) (r .ensures) (v .0 .0) (v .0 .1 .0) (v .1)
-
-enum-told : tie.Need-enum-told Inv-loop μ-loop
-enum-told c = search needs
+    ap verdictOf (c .verdict-by .ensures)
+    ∙ refuses _ _ _ _ (l .state) (l .good) (l .inv) (c .before .before .before .before .if1 .taken) (r .result) (r .ensures) (c .before .before .match .keys2)
 
 on : (c : tie.After-state Inv-loop μ-loop) →
     let a = c .before .before .before .before .before .before .before .before .before .args in
@@ -80,9 +82,10 @@ follow-spec =
     μ-loop
     loop-holds
     take-hop-requires
-    enum-known-v
-    returns
     enum-told
+    enum-told-2
+    verdict-by-requires
+    returns
     add-good
     loop-less
     loop-again
