@@ -2,8 +2,8 @@
  * lotlog.h: the calls of the proved lot log, for C and for every language that calls C.
  *
  * Link the archive that `rt staticlib lotlog` writes; README has the line. It is for x86-64 Linux and
- * needs memcpy, memmove and memset, from the C library or of your own, and nothing else. No call
- * allocates, keeps a pointer or touches anything but what it is lent.
+ * needs at most memcpy, memmove and memset, from the C library or of your own, and nothing else. No
+ * call allocates, keeps a pointer or touches anything but what it is lent.
  *
  * Every call returns a number of documents 01 and 02: 0 for done, else the refusal.
  *

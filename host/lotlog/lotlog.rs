@@ -6,8 +6,8 @@
 //! 1. A store holds the digests of entries and not the entries, which are the caller's to keep.
 //!
 //! [`file`] keeps a store in a file, safely, and what a practice holds. A program links the archive
-//! that `host/run library` makes (README has the line), which needs memcpy, memmove and memset, as
-//! every Rust program has them.
+//! that `host/run library` makes (README has the line), which needs at most memcpy, memmove and memset,
+//! as every Rust program has them.
 //!
 //! The functions are `#[inline]`, so a program refers only to the calls that it makes: it links
 //! with a library that has these and not yet the others.
