@@ -32,6 +32,16 @@ pub const HANDLES_MOST: usize = 1_000;
 pub const TRIE_PROOF_MOST: usize = 8_192;
 pub const CLASH_LEAST: usize = 65;
 
+/// The most bytes of a key of HMAC, and of a message under it.
+pub const MAC_KEY_MOST: usize = 65_536;
+pub const MAC_MESSAGE_MOST: usize = 65_472;
+
+/// The type of an entry that closes a van's log.
+pub const CLOSING: u32 = 1;
+
+/// The bytes of a van's entry beside its data: type, length and seal.
+pub const SEALED_BESIDE: usize = 38;
+
 /// The `stop` of a whole append: its last store, of the state byte, closes the record.
 pub const WHOLE: u64 = 65;
 
@@ -68,6 +78,9 @@ pub fn meaning(number: u64) -> &'static str {
         20 => "held file version wrong",
         21 => "held file count over the limit",
         22 => "held file length not that of its count",
+        23 => "van's log closed",
+        24 => "entry of a van's log wrong",
+        25 => "no closing entry",
         _ => "no number of documents 01 and 02",
     }
 }
@@ -247,6 +260,30 @@ mod raw {
             first_out_length: usize,
             second_out: *mut u8,
             second_out_length: usize,
+            answer: *mut u64,
+        ) -> u64;
+        pub fn lot_mac(
+            key: *const u8,
+            key_length: usize,
+            message: *const u8,
+            message_length: usize,
+            mac: *mut u8,
+        ) -> u64;
+        pub fn lot_seal_add(
+            key: *mut u8,
+            key_length: usize,
+            chain: *mut u8,
+            kind: u32,
+            data: *const u8,
+            data_length: usize,
+            out: *mut u8,
+            out_length: usize,
+            answer: *mut u64,
+        ) -> u64;
+        pub fn lot_seal_check(
+            first_key: *const u8,
+            log: *const u8,
+            log_length: usize,
             answer: *mut u64,
         ) -> u64;
     }
@@ -532,5 +569,49 @@ pub fn trie_clash(
             second_out.len(),
             answer,
         )
+    })
+}
+
+/// HMAC-SHA-256 of a message under a key, of any lengths up to [`MAC_KEY_MOST`] and
+/// [`MAC_MESSAGE_MOST`]. Refusals: 3.
+#[inline]
+#[must_use]
+pub fn mac(key: &[u8], message: &[u8], mac: &mut Digest) -> u64 {
+    let (length, bytes) = (key.len(), message.len());
+    unsafe { raw::lot_mac(key.as_ptr(), length, message.as_ptr(), bytes, mac.as_mut_ptr()) }
+}
+
+/// Adds an entry to a van's log: writes it to the start of `out` and answers its length. The key, of
+/// 32 bytes, becomes the next one, or zeros behind an entry of type [`CLOSING`], and `chain`, 32 zero
+/// bytes before the first entry, goes with it from call to call. Refusals: 3, 6, 23.
+#[inline]
+pub fn seal_add(
+    key: &mut [u8],
+    chain: &mut Digest,
+    kind: u32,
+    data: &[u8],
+    out: &mut [u8],
+) -> Answer {
+    answered(|answer| unsafe {
+        raw::lot_seal_add(
+            key.as_mut_ptr(),
+            key.len(),
+            chain.as_mut_ptr(),
+            kind,
+            data.as_ptr(),
+            data.len(),
+            out.as_mut_ptr(),
+            out.len(),
+            answer,
+        )
+    })
+}
+
+/// Checks a van's whole log from its first key; answers the number of its entries, and with 24 the
+/// first wrong one, counted from 0. Refusals: 24, 25.
+#[inline]
+pub fn seal_check(first_key: &Digest, log: &[u8]) -> Answer {
+    answered(|answer| unsafe {
+        raw::lot_seal_check(first_key.as_ptr(), log.as_ptr(), log.len(), answer)
     })
 }

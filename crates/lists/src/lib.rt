@@ -65,6 +65,17 @@ pub fn number_at(s: &[u8], at: usize) -> u64
     n
 }
 
+// The number that k bytes of s from index at are.
+pub fn number_in(s: &[u8], at: usize, k: usize) -> u64
+    requires { ⌜ (at + k ≤ length (now s)) × (k ≤ 8) ⌝ }
+    ensures { λ r. ⌜ r ≡ number (take k (drop at (now (s .entry)))) ⌝ }
+{
+    let mut wide = [0u8; 8];
+    let end = at + k;
+    put(&mut wide, 8 - k, &s[at..end], k);
+    number_at(&wide, 0)
+}
+
 // The 8 bytes of a number.
 pub fn bytes_of(n: u64) -> [u8; 8]
     ensures { λ r. ⌜ r ≡ be 8 n ⌝ }
