@@ -47,9 +47,15 @@ use Rattle.prove.specs.Promises as prove
 use Rattle.lookup.specs.Told.{verdictNumber}
 use Rattle.lookup.specs.Told as lookup
 use Rattle.clash.specs.Promises as clash
+use Rattle.seals.specs.Calls.{macCall, addCall, checkCall}
+use Rattle.hmac.specs.Told.{codedTold}
+use Rattle.hmac.specs.Promises as hmac
+use Rattle.sealed.specs.Told.{leftTold, checkedTold}
+use Rattle.sealed.specs.Promises as sealed
 use Rattle.lotlog.specs.Exports.{telling, one-told, leaving, one-left, writing, one-wrote, showing, one-showed}
 use Rattle.lotlog.specs.Outcomes.{lotHash, lotStart, lotCount, lotAppend, lotDigestAt, lotAudit, lotHeldStart, lotHeldAt, lotHeldWrite, lotHeldRead, lotBuildMembership, lotBuildAdvancement, lotCheckMembership, lotCheckAdvancement, lotDispute, lotDiffering}
 use Rattle.lotlog.specs.Recalls.{lotHandle, lotTrieRoot, lotProvePresence, lotProveAbsence, lotCheckPresence, lotCheckAbsence, lotTrieClash}
+use Rattle.lotlog.specs.Sealing.{sealing, one-sealed, lotMac, lotSealAdd, lotSealCheck}
 
 -- where a crate says that telling loses nothing, answers that are told as one outcome are one
 lossless : {A B : Type 0} (told : A → B) → ((x y : A) → told x ≡ told y → x ≡ y) → (o : B) → One told o
@@ -160,6 +166,17 @@ lookup-check-absence = lookup.check-absence-one
 pub clash-clash : (key root p q b1 b2 : Bytes) → One clash.outcome (clashCall hashOf key root p q b1 b2)
 clash-clash = clash.clash-one
 
+-- ---- hmac and sealed
+
+pub hmac-mac : (key m : Bytes) → One codedTold (macCall hashOf key m)
+hmac-mac = hmac.mac-one
+
+pub sealed-add : (key y : Bytes) (kind : ℕ) (text out : Bytes) → One leftTold (addCall hashOf key y kind text out)
+sealed-add = sealed.add-one
+
+pub sealed-check : (first log : Bytes) → One checkedTold (checkCall hashOf first log)
+sealed-check = sealed.check-one
+
 -- ---- the exports: the number returned, the numbers of `answer`, and lent memory
 
 pub lot-hash : (m d : Bytes) → One leaving (lotHash m d)
@@ -230,3 +247,12 @@ lot-check-absence key root p = one-of (lotCheckAbsence key root p)
 
 pub lot-trie-clash : (key root p q b1 b2 : Bytes) → One showing (lotTrieClash key root p q b1 b2)
 lot-trie-clash key root p q b1 b2 = one-showed (lotTrieClash key root p q b1 b2)
+
+pub lot-mac : (key m d : Bytes) → One leaving (lotMac key m d)
+lot-mac key m d = one-left (lotMac key m d)
+
+pub lot-seal-add : (key y : Bytes) (kind : ℕ) (text out : Bytes) → One sealing (lotSealAdd key y kind text out)
+lot-seal-add key y kind text out = one-sealed (lotSealAdd key y kind text out)
+
+pub lot-seal-check : (first log : Bytes) → One telling (lotSealCheck first log)
+lot-seal-check first log = one-told (lotSealCheck first log)

@@ -8,4 +8,5 @@ mod disputing; // the dispute
 mod hashing; // SHA-256
 mod holding; // held states
 mod recalls; // the dictionary of recalled lots
+mod sealing; // HMAC, and the sealed logs of the vans
 mod storing; // the store

@@ -1,5 +1,5 @@
 // The numbers of documents 01 and 02: what each call answers, for a caller that has numbers alone. With the number goes one more: the count, the proof's
-// length, the hops found good, or the wrong element; and with 9 and 10 the place where a proof broke, which is 0, 0 with every other number.
+// length, the hops found good, or the wrong element or entry; and with 9 and 10 the place where a proof broke, which is 0, 0 with every other number.
 ghost use mathlib.Core.Path.{_≡_};
 ghost use Rattle.store.specs.Told as read;
 ghost use Rattle.audit.specs.Told.{auditTold};
@@ -12,14 +12,19 @@ ghost use Rattle.trie.specs.Told.{rootNumber};
 ghost use Rattle.prove.specs.Told as prove;
 ghost use Rattle.lookup.specs.Told.{verdictNumber};
 ghost use Rattle.saved.specs.Told.{savedTold, readingNumber};
+ghost use Rattle.hmac.specs.Told.{codingNumber};
+ghost use Rattle.sealed.specs.Told.{addingTold, checkedTold};
 ghost use Rattle.numbers.specs.Saying.{Says};
 use advancement::Advance;
 use audit::Audited;
 use build::Built;
 use handles::HandleAnswer;
+use hmac::Coding;
 use membership::Verdict;
 use saved::Reading;
 use saved::Saved;
+use sealed::Adding;
+use sealed::Checked;
 use store::Appended;
 use store::Counted;
 use store::Found;
@@ -233,5 +238,38 @@ pub fn reading(r: Reading) -> u64
         Reading::CountOver => 21,
         Reading::LengthWrong => 22,
         Reading::StateBroken => 2,
+    }
+}
+
+// The number of what coding a message comes to.
+pub fn coding(c: Coding) -> u64
+    ensures { λ n. ⌜ n ≡ codingNumber c ⌝ }
+{
+    match c {
+        Coding::Done => 0,
+        Coding::TooLong => 3,
+    }
+}
+
+// The number and the bytes of a van's entry.
+pub fn added(a: Adding) -> Said
+    ensures { λ r. ⌜ Says r (addingTold a) ⌝ }
+{
+    match a {
+        Adding::Written { size } => say(0, size),
+        Adding::TooLong => say(3, 0),
+        Adding::OutputShort => say(6, 0),
+        Adding::Closed => say(23, 0),
+    }
+}
+
+// The number, and the entries of a van's log or its first wrong one.
+pub fn checked(c: Checked) -> Said
+    ensures { λ r. ⌜ Says r (checkedTold c) ⌝ }
+{
+    match c {
+        Checked::Sound { entries } => say(0, entries),
+        Checked::Wrong { entry } => say(24, entry),
+        Checked::Unclosed => say(25, 0),
     }
 }
