@@ -7,7 +7,8 @@ use std::marker::PhantomData;
 
 use lotlog::{Answer, Digest, Held, Side};
 
-use crate::calls::{AdvanceCalls, HashCalls, MemberCalls, SavedCalls, StoreCalls, TrieCalls};
+use crate::calls::{AdvanceCalls, HashCalls, MemberCalls, SavedCalls};
+use crate::calls::{SealCalls, StoreCalls, TrieCalls};
 use crate::second_calls::Second;
 
 /// What lent memory holds before a call that is to write it.
@@ -369,6 +370,76 @@ impl<C: TrieCalls> Both<C> {
         our_first.must_be(&first, call);
         our_second.must_be(&second, call);
         wanted
+    }
+}
+
+/// The calls of the vans' logs on both sides, whatever these are. The group's functions take this,
+/// so that they are compiled once and not for each faulty copy.
+pub trait BothSealed {
+    fn mac(&mut self, key: &[u8], message: &[u8]) -> (u64, Digest);
+
+    /// Adds into an output of `room` bytes; returns the answer and the output. Key and chain are
+    /// lent, and hold then what the call left there.
+    fn seal_add(
+        &mut self,
+        key: &mut [u8],
+        chain: &mut Digest,
+        kind: u32,
+        data: &[u8],
+        room: usize,
+    ) -> (Answer, Vec<u8>);
+
+    fn seal_check(&mut self, first_key: &Digest, log: &[u8]) -> Answer;
+
+    /// Counts an answer that was also told beforehand.
+    fn count_told(&mut self);
+}
+
+impl<C: SealCalls, S: SealCalls> BothSealed for Both<C, S> {
+    fn mac(&mut self, key: &[u8], message: &[u8]) -> (u64, Digest) {
+        let mut wanted = [BEFORE; 32];
+        let mut ours = Lent::of(&wanted);
+        let number = C::mac(key, message, ours.lend_array());
+        let wanted_number = S::mac(key, message, &mut wanted);
+        let call = || format!("HMAC, key of {}, message of {}", key.len(), message.len());
+        self.agree(number, wanted_number, call);
+        ours.must_be(&wanted, call);
+        (wanted_number, wanted)
+    }
+
+    fn seal_add(
+        &mut self,
+        key: &mut [u8],
+        chain: &mut Digest,
+        kind: u32,
+        data: &[u8],
+        room: usize,
+    ) -> (Answer, Vec<u8>) {
+        let mut wanted = vec![BEFORE; room];
+        let mut ours = Lent::of(&wanted);
+        let (mut our_key, mut our_chain) = (Lent::of(key), Lent::of(chain));
+        let answer = C::seal_add(our_key.lend(), our_chain.lend_array(), kind, data, ours.lend());
+        let wanted_answer = S::seal_add(key, chain, kind, data, &mut wanted);
+        let call = |of: &str| {
+            let (bytes, length) = (data.len(), key.len());
+            format!("adding {} of type {}, key of {}, room of {}{}", bytes, kind, length, room, of)
+        };
+        self.agree(answer, wanted_answer, || call(""));
+        our_key.must_be(key, || call(", the key"));
+        our_chain.must_be(&*chain, || call(", the chain"));
+        ours.must_be(&wanted, || call(", the output"));
+        (wanted_answer, wanted)
+    }
+
+    fn seal_check(&mut self, first_key: &Digest, log: &[u8]) -> Answer {
+        let answer = C::seal_check(first_key, log);
+        let wanted = S::seal_check(first_key, log);
+        self.agree(answer, wanted, || format!("check of a van's log of {} bytes", log.len()));
+        wanted
+    }
+
+    fn count_told(&mut self) {
+        self.told += 1;
     }
 }
 

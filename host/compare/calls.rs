@@ -54,3 +54,16 @@ pub trait TrieCalls {
         out: [&mut [u8]; 2],
     ) -> Answer;
 }
+
+/// The vans' logs: HMAC, the van's adding, the office's check.
+pub trait SealCalls {
+    fn mac(key: &[u8], message: &[u8], mac: &mut Digest) -> u64;
+    fn seal_add(
+        key: &mut [u8],
+        chain: &mut Digest,
+        kind: u32,
+        data: &[u8],
+        out: &mut [u8],
+    ) -> Answer;
+    fn seal_check(first_key: &Digest, log: &[u8]) -> Answer;
+}

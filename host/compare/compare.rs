@@ -3,10 +3,10 @@
 //! Both get the same arguments. What is compared is all that a caller can see: the number of
 //! documents 01 and 02, the numbers beside it, and every byte of lent memory after the call, with
 //! guard bytes around it. The calls come in groups (`hash`, `store`, `member`, `advance`, `saved`,
-//! `trie`) and all together (`whole`), and a group is a function over any implementation of its
-//! calls. So the second program can be held to itself, and to faulty copies of itself, each of
-//! which a group must notice (`faulty`). Where a proof broke is also told beforehand, without the
-//! second program (`places`).
+//! `trie`, `sealed`) and all together (`whole`), and a group is a function over any implementation
+//! of its calls. So the second program can be held to itself, and to faulty copies of itself, each
+//! of which a group must notice (`faulty`). Where a proof broke is also told beforehand, without
+//! the second program (`places`), and so is what comes of damage to a van's log (`sealed`).
 //!
 //! A difference panics with the call and its arguments.
 
@@ -25,6 +25,7 @@ pub mod member;
 pub mod places;
 pub mod random;
 pub mod saved;
+pub mod sealed;
 pub mod second_calls;
 pub mod store;
 pub mod trie;

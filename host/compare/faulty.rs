@@ -2,6 +2,8 @@
 //!
 //! Among the faults are the slips that document 01 has seen elsewhere.
 
+mod sealed;
+
 use lotlog::{Answer, Digest, Held, Side};
 use second::hash::{Hash, Sha256};
 use second::proof::{components, link};
@@ -10,7 +12,8 @@ use second::store::{HEADER, OPEN, RECORD, STATE};
 use second::trie::climbed;
 use second::{message, path, ENTRY_MOST, LIMIT};
 
-use crate::calls::{AdvanceCalls, HashCalls, MemberCalls, SavedCalls, StoreCalls, TrieCalls};
+use crate::calls::{AdvanceCalls, HashCalls, MemberCalls, SavedCalls};
+use crate::calls::{SealCalls, StoreCalls, TrieCalls};
 use crate::second_calls::Second;
 
 /// The second program with one of the faults below.
@@ -113,6 +116,70 @@ pub const PLACE_WITH_7: usize = 90;
 pub const PLACE_WITH_8: usize = 91;
 pub const PLACE_WITH_11: usize = 92;
 pub const PLACE_WITH_13: usize = 93;
+pub const HASHES_A_KEY_OF_64: usize = 94;
+pub const LEAVES_A_KEY_OF_65: usize = 95;
+pub const KEY_FILLED_IN_FRONT: usize = 96;
+pub const PADS_SWAPPED: usize = 97;
+pub const INNER_HASH_ALONE: usize = 98;
+pub const KEY_MOST_ONE_LESS: usize = 99;
+pub const KEY_MOST_ONE_MORE: usize = 100;
+pub const MESSAGE_MOST_ONE_LESS: usize = 101;
+pub const MESSAGE_MOST_ONE_MORE: usize = 102;
+pub const MESSAGE_OF_ANY_LENGTH: usize = 103;
+pub const REFUSED_MAC_IS_ZEROS: usize = 104;
+pub const OLD_KEY_KEPT: usize = 105;
+pub const LAST_OF_THE_OLD_KEY_STAYS: usize = 106;
+pub const CLOSING_LEAVES_A_KEY: usize = 107;
+pub const SEAL_OVER_THE_DATA: usize = 108;
+pub const SEAL_UNDER_THE_NEXT_KEY: usize = 109;
+pub const CHAIN_WITHOUT_THE_TYPE: usize = 110;
+pub const CHAIN_WITHOUT_ITS_06: usize = 111;
+pub const TYPE_TURNED_IN_THE_CHAIN: usize = 112;
+pub const TYPE_LITTLE_ENDIAN: usize = 113;
+pub const LENGTH_LITTLE_ENDIAN: usize = 114;
+pub const INCREMENTS_WITH_ANOTHER_TEXT: usize = 115;
+pub const TEXT_BEHIND_THE_KEY: usize = 116;
+pub const CLOSES_WITHOUT_DATA_ALONE: usize = 117;
+pub const CLOSES_BY_THE_LAST_BYTE: usize = 118;
+pub const CLOSES_BY_TWO_BYTES: usize = 119;
+pub const CLOSES_FROM_THE_OTHER_END: usize = 120;
+pub const ADDS_4095_AT_MOST: usize = 121;
+pub const ADDS_4097: usize = 122;
+pub const TAKES_A_KEY_OF_31: usize = 123;
+pub const TAKES_A_KEY_OF_33: usize = 124;
+pub const ROOM_OF_ONE_LESS: usize = 125;
+pub const ROOM_OF_ONE_MORE: usize = 126;
+pub const ROOM_BEFORE_THE_DATA: usize = 127;
+pub const CLOSED_BEFORE_THE_ROOM: usize = 128;
+pub const ADDS_UNDER_ZEROS: usize = 129;
+pub const CLOSED_BY_31_ZEROS: usize = 130;
+pub const CHAIN_NOT_MOVED: usize = 131;
+pub const CHAIN_MOVED_ON_A_REFUSAL: usize = 132;
+pub const KEY_MOVED_ON_A_REFUSAL: usize = 133;
+pub const WRITES_ON_A_REFUSAL: usize = 134;
+pub const CLEARS_BEHIND_THE_ENTRY: usize = 135;
+pub const LENGTH_BESIDE_A_REFUSAL: usize = 136;
+pub const NEEDS_NO_CLOSE: usize = 137;
+pub const TAKES_AN_EMPTY_LOG: usize = 138;
+pub const NUMBER_BESIDE_25: usize = 139;
+pub const CLOSE_BEFORE_THE_ENTRIES: usize = 140;
+pub const NAMES_THE_ENTRY_BEFORE: usize = 141;
+pub const NAMES_THE_ENTRY_AFTER: usize = 142;
+pub const NAMES_THE_LAST_ENTRY: usize = 143;
+pub const STRAY_BYTES_IGNORED: usize = 144;
+pub const STOPS_AT_THE_CLOSE: usize = 145;
+pub const TAKES_ENTRIES_AFTER_A_CLOSE: usize = 146;
+pub const CHECKS_4095_AT_MOST: usize = 147;
+pub const CHECKS_4097: usize = 148;
+pub const CHECKS_ANY_LENGTH: usize = 149;
+pub const REFUSES_A_FIRST_KEY_OF_ZEROS: usize = 150;
+pub const LAST_OF_THE_SEAL_NOT_COMPARED: usize = 151;
+pub const PART_OF_A_SEAL_TAKEN: usize = 152;
+pub const PART_OF_A_HEAD_IGNORED: usize = 153;
+pub const LAST_SEAL_ALONE: usize = 154;
+pub const SHAPE_BEFORE_THE_SEALS: usize = 155;
+pub const OFFICE_KEEPS_THE_KEY: usize = 156;
+pub const COUNTS_WITHOUT_THE_CLOSE: usize = 157;
 
 impl<const FAULT: usize> HashCalls for Faulty<FAULT> {
     fn hash(message: &[u8], digest: &mut Digest) -> u64 {

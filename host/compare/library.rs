@@ -5,7 +5,8 @@
 
 use lotlog::{Answer, Digest, Held, Side};
 
-use crate::calls::{AdvanceCalls, HashCalls, MemberCalls, SavedCalls, StoreCalls, TrieCalls};
+use crate::calls::{AdvanceCalls, HashCalls, MemberCalls, SavedCalls};
+use crate::calls::{SealCalls, StoreCalls, TrieCalls};
 
 /// The proved library.
 pub enum Library {}
@@ -140,5 +141,28 @@ impl TrieCalls for Library {
         out: [&mut [u8]; 2],
     ) -> Answer {
         lotlog::trie_clash(key, root, presence, absence, out)
+    }
+}
+
+impl SealCalls for Library {
+    #[inline]
+    fn mac(key: &[u8], message: &[u8], mac: &mut Digest) -> u64 {
+        lotlog::mac(key, message, mac)
+    }
+
+    #[inline]
+    fn seal_add(
+        key: &mut [u8],
+        chain: &mut Digest,
+        kind: u32,
+        data: &[u8],
+        out: &mut [u8],
+    ) -> Answer {
+        lotlog::seal_add(key, chain, kind, data, out)
+    }
+
+    #[inline]
+    fn seal_check(first_key: &Digest, log: &[u8]) -> Answer {
+        lotlog::seal_check(first_key, log)
     }
 }

@@ -5,9 +5,10 @@ use second::dispute::{self, Found};
 use second::hash::{self, Sha256};
 use second::refusal::{self, Refusal};
 use second::trie::{self, Shown};
-use second::{held, proof, saved, store};
+use second::{held, mac, proof, saved, sealed, store};
 
-use crate::calls::{AdvanceCalls, HashCalls, MemberCalls, SavedCalls, StoreCalls, TrieCalls};
+use crate::calls::{AdvanceCalls, HashCalls, MemberCalls, SavedCalls};
+use crate::calls::{SealCalls, StoreCalls, TrieCalls};
 
 /// The second program.
 pub enum Second {}
@@ -177,5 +178,25 @@ impl TrieCalls for Second {
             Shown::Pair(first, second) => [0, first, second],
             Shown::Zeros(length) => [1, length, 0],
         }))
+    }
+}
+
+impl SealCalls for Second {
+    fn mac(key: &[u8], message: &[u8], mac: &mut Digest) -> u64 {
+        lent(mac::mac::<Sha256>(key, message), mac)
+    }
+
+    fn seal_add(
+        key: &mut [u8],
+        chain: &mut Digest,
+        kind: u32,
+        data: &[u8],
+        out: &mut [u8],
+    ) -> Answer {
+        one_number(sealed::add::<Sha256>(key, chain, kind, data, out))
+    }
+
+    fn seal_check(first_key: &Digest, log: &[u8]) -> Answer {
+        one_number(sealed::check::<Sha256>(first_key, log))
     }
 }

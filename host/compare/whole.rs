@@ -10,12 +10,13 @@ use second::ENTRY_MOST;
 
 use crate::advance::Step;
 use crate::both::Both;
-use crate::calls::{AdvanceCalls, HashCalls, MemberCalls, SavedCalls, StoreCalls, TrieCalls};
+use crate::calls::{AdvanceCalls, HashCalls, MemberCalls, SavedCalls};
+use crate::calls::{SealCalls, StoreCalls, TrieCalls};
 use crate::damage::spoiled;
 use crate::logs::{read, sound};
 use crate::member::Claim;
 use crate::random::Random;
-use crate::{saved, trie};
+use crate::{saved, sealed, trie};
 
 /// The lengths of the logs that the calls work on. They leave room for elements, or do not.
 const LOGS: [(u64, u64); 9] =
@@ -24,16 +25,17 @@ const LOGS: [(u64, u64); 9] =
 /// Makes so many random calls or a few more.
 pub fn run<C>(both: &mut Both<C>, seed: u64, calls: u64)
 where
-    C: HashCalls + StoreCalls + MemberCalls + AdvanceCalls + SavedCalls + TrieCalls,
+    C: HashCalls + StoreCalls + MemberCalls + AdvanceCalls + SavedCalls + TrieCalls + SealCalls,
 {
     LOGS.iter().for_each(|(elements, room)| old_store(both, *elements, *room));
     let stores = LOGS.map(|(elements, room)| sound(elements, room));
     let mut random = Random::new(seed);
     let claims = trie::claims(&mut random);
+    let vans = sealed::vans(&mut random);
     let enough = both.calls + calls;
     while both.calls < enough {
         let store = &stores[random.place(stores.len())];
-        match random.below(27) {
+        match random.below(29) {
             0 => hash(both, &mut random),
             1 => start(both, store, &mut random),
             2 | 3 => look(both, store, &mut random),
@@ -44,6 +46,7 @@ where
             15..=19 => check_advancement(both, store, &mut random),
             20 | 21 => save(both, store, &mut random),
             22 => trie::any_call(both, &claims, &mut random),
+            23 | 24 => sealed::any_call(both, &vans, &mut random),
             _ => dispute(both, store, &mut random),
         }
     }

@@ -10,10 +10,11 @@
  *    1  store under 16 bytes, wrong header, or damage in the state bytes or their order
  *    2  held state over the limit, a free row not zero, or count 0 with a digest that is not T(0);
  *       held file with count 0 and such a digest
- *    3  entry or key over 4,096 bytes; message over 65,536 bytes
+ *    3  entry, key or data over 4,096 bytes; message over 65,536 bytes; HMAC: key over 65,536 bytes or
+ *       message over 65,472 bytes
  *    4  no such position or length
  *    5  no open record, or the log is full
- *    6  lent output too short
+ *    6  lent output too short; van's key not of 32 bytes
  *    7  proof length not that of the path
  *    8  first d is not the entry's
  *    9  basis row differs; `answer` says at which element and in which row
@@ -30,9 +31,13 @@
  *   20  held file: wrong version
  *   21  held file: count over the limit
  *   22  held file: length not that of its count
+ *   23  van's key of zeros: the log is closed
+ *   24  van's log: an entry is cut short, too long, wrongly sealed or after a closing one; `answer` says
+ *       which, from 0
+ *   25  van's log: no closing entry
  *
- * Lent memory. A refused call leaves every store, digest, handle, root, held state, output and buffer
- * as it was. `answer` is no lent memory in that sense: it is written whole by each call that takes it,
+ * Lent memory. A refused call leaves every store, digest, handle, root, held state, key, output and
+ * buffer as it was. `answer` is no lent memory in that sense: it is written whole by each call that takes it,
  * with 0 where nothing is to be said.
  *
  * Pointers. A pointer with a length n must be good for n bytes; with length 0 any pointer will do, NULL
@@ -64,6 +69,13 @@
  *   handles     0 to 1,000 handles of 32 bytes, strictly rising byte by byte
  *   trie proof  the siblings of the nodes on the key's way, 32 bytes each, from the root down: 256 for
  *               presence; for absence those down to the first empty node, none if the root is empty
+ *
+ * A van's log. A van seals what it writes under a key that it does not keep; the office knows the first
+ * key, A(0), and checks the whole log. Y(j) is SHA-256 of 06, Y(j-1), the type (4 bytes) and the data,
+ * and Y(-1) is 32 zero bytes. The seal of entry j is HMAC-SHA-256 under A(j) of Y(j). A(j+1) is SHA-256
+ * of the 14 bytes "Increment Hash" and A(j). An entry of type 1 closes the log; then the key is zeros.
+ *   entry       type (4), length of the data (2), the data, 0 to 4,096 bytes, the seal (32)
+ *   log         the entries, one after the other
  */
 #ifndef LOTLOG_H
 #define LOTLOG_H
@@ -91,6 +103,13 @@ extern "C" {
 #define LOT_HANDLES_MOST 1000     /* the most handles of a list */
 #define LOT_TRIE_PROOF_MOST 8192  /* the longest trie proof, and every one of presence, in bytes */
 #define LOT_CLASH_LEAST 65        /* the least room of a clash's buffer, in bytes */
+#define LOT_MAC_KEY_MOST 65536    /* the longest key of lot_mac, in bytes */
+#define LOT_MAC_MOST 65472        /* the longest message of lot_mac, in bytes */
+#define LOT_SEAL_KEY_BYTES 32
+#define LOT_SEAL_CLOSING 1u       /* the type of the entry that closes a van's log */
+
+/* The bytes of a van's entry with so many of data. */
+#define LOT_SEALED_BYTES(data_length) ((size_t)38 + (size_t)(data_length))
 
 /* The bytes of a store with room for so many elements. */
 #define LOT_STORE_BYTES(room) \
@@ -218,6 +237,26 @@ uint64_t lot_trie_clash(const uint8_t *key, size_t key_length, const uint8_t roo
                         const uint8_t *absence, size_t absence_length,
                         uint8_t *first_out, size_t first_out_length,
                         uint8_t *second_out, size_t second_out_length, uint64_t answer[3]);
+
+/* HMAC-SHA-256 of the message under the key, each of any length up to its limit. Refusals: 3. */
+uint64_t lot_mac(const uint8_t *key, size_t key_length, const uint8_t *message,
+                 size_t message_length, uint8_t mac[32]);
+
+/* Adds an entry to a van's log: writes it to the start of `out` and leaves the rest of `out`. The key
+   is overwritten by the next one, or by zeros if the type is 1, and `chain` becomes Y with this entry.
+   Before the first entry the key is A(0) and `chain` 32 zero bytes; from call to call both are handed
+   on as they are. What a call leaves of the key on the stack below it is the caller's to clear
+   (README, "For the van's engineer").
+   Refusals: 3 for data over 4,096 bytes; 6 for a key that is not of 32 bytes, or an `out` under
+   LOT_SEALED_BYTES(data_length); 23 for a key of zeros. Answer: the bytes of the entry. */
+uint64_t lot_seal_add(uint8_t *key, size_t key_length, uint8_t chain[32], uint32_t kind,
+                      const uint8_t *data, size_t data_length, uint8_t *out, size_t out_length,
+                      uint64_t answer[3]);
+
+/* Checks a van's whole log from A(0). Every value of `first_key` is taken, zeros too, under which
+   anyone can seal. Refusals: 24, 25. Answer: the number of entries; with 24, the first wrong one. */
+uint64_t lot_seal_check(const uint8_t first_key[32], const uint8_t *log, size_t log_length,
+                        uint64_t answer[3]);
 
 #ifdef __cplusplus
 }

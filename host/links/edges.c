@@ -35,6 +35,11 @@ static uint8_t handle[LOT_DIGEST_BYTES], handles[2 * LOT_DIGEST_BYTES], other[LO
 static uint8_t root[LOT_DIGEST_BYTES], other_root[LOT_DIGEST_BYTES], empty_root[LOT_DIGEST_BYTES];
 static uint8_t presence[LOT_TRIE_PROOF_MOST], absence[LOT_TRIE_PROOF_MOST];
 
+/* The material of a van: A(0), its log of two entries, the entry and a closing one of no bytes, and the
+   same with a bit of the closing entry's seal turned. */
+static uint8_t key_0[LOT_SEAL_KEY_BYTES], chain_0[LOT_DIGEST_BYTES];
+static uint8_t sealed[LOT_SEALED_BYTES(sizeof entry) + LOT_SEALED_BYTES(0)], bad_seal[sizeof sealed];
+
 /* A call as it is made: the pieces that it is lent, and the numbers that it takes. */
 struct lending {
     uint8_t *at[PIECES];
@@ -75,6 +80,9 @@ CALL(prove_absence, SLICE(0), SLICE(1), SLICE(2), ANSWER(3))
 CALL(check_presence, SLICE(0), ARRAY(1), SLICE(2))
 CALL(check_absence, SLICE(0), ARRAY(1), SLICE(2))
 CALL(trie_clash, SLICE(0), ARRAY(1), SLICE(2), SLICE(3), SLICE(4), SLICE(5), ANSWER(6))
+CALL(mac, SLICE(0), SLICE(1), ARRAY(2))
+CALL(seal_add, SLICE(0), ARRAY(1), (uint32_t)FIRST, SLICE(2), SLICE(3), ANSWER(4))
+CALL(seal_check, ARRAY(0), SLICE(1), ANSWER(2))
 
 /* A piece of lent memory: what it holds before the call, or NULL for an output; its length; and the
    number of the call if this piece is a slice and it alone is empty. */
@@ -95,7 +103,7 @@ struct piece {
 /* What a call of the table returns. Broken proofs are refused. Else the clash alone is not done: under
    SHA-256 no one can make the two accepted proofs that it takes. So it is refused as late as it can be,
    when both have been read. */
-enum { DONE = 0, ROW_DIFFERS = 9, LINK_DIFFERS = 10, NOT_ACCEPTED = 13 };
+enum { DONE = 0, ROW_DIFFERS = 9, LINK_DIFFERS = 10, NOT_ACCEPTED = 13, ENTRY_WRONG = 24 };
 
 /* A call: the numbers that it takes, the number that it returns, its answer, and what it is lent. */
 struct test {
@@ -164,6 +172,15 @@ static const struct test tests[] = {
     {"trie clash", call_trie_clash, {0, 0}, NOT_ACCEPTED, {2},
      {IN(entry, 13), FIXED(root), IN(presence, 13), IN(absence, 13), OUT(LOT_CLASH_LEAST, 6),
       OUT(LOT_CLASH_LEAST, 6), TOLD}},
+    {"mac", call_mac, {0, 0}, DONE, {0}, {IN(entry, 0), IN(entry, 0), FIXED_OUT(32)}},
+    {"seal add", call_seal_add, {2, 0}, DONE, {LOT_SEALED_BYTES(sizeof entry)},
+     {IN(key_0, 6), FIXED(chain_0), IN(entry, 0), OUT(LOT_SEALED_BYTES(sizeof entry), 6), TOLD}},
+    {"seal add of a closing entry of no bytes", call_seal_add, {LOT_SEAL_CLOSING, 0}, DONE,
+     {LOT_SEALED_BYTES(0)},
+     {IN(key_0, 6), FIXED(chain_0), NOTHING, OUT(LOT_SEALED_BYTES(0), 6), TOLD}},
+    {"seal check", call_seal_check, {0, 0}, DONE, {2}, {FIXED(key_0), IN(sealed, 25), TOLD}},
+    {"seal check of a broken log", call_seal_check, {0, 0}, ENTRY_WRONG, {1},
+     {FIXED(key_0), IN(bad_seal, 25), TOLD}},
 };
 
 /* How a call is made: which pieces are empty, NULL and moved, with bit k for piece k. */
@@ -296,6 +313,21 @@ static uint64_t prepare_trie(void) {
     return refused;
 }
 
+/* Makes the material of the van; returns 0, or what refused. */
+static uint64_t prepare_van(void) {
+    uint64_t answer[LOT_ANSWER_NUMBERS];
+    uint8_t key[LOT_SEAL_KEY_BYTES], chain[LOT_DIGEST_BYTES] = {0};
+    size_t first = LOT_SEALED_BYTES(sizeof entry);
+    for (size_t at = 0; at < sizeof key; at++) key[at] = key_0[at] = (uint8_t)(3 * at + 2);
+    uint64_t refused = lot_seal_add(key, sizeof key, chain, 2, entry, sizeof entry, sealed,
+                                    sizeof sealed, answer);
+    refused |= lot_seal_add(key, sizeof key, chain, LOT_SEAL_CLOSING, NULL, 0, sealed + first,
+                            sizeof sealed - first, answer);
+    memcpy(bad_seal, sealed, sizeof sealed);
+    bad_seal[sizeof bad_seal - 1] ^= 1;
+    return refused;
+}
+
 /* Makes the material. */
 static int prepare(void) {
     uint64_t answer[LOT_ANSWER_NUMBERS];
@@ -318,6 +350,7 @@ static int prepare(void) {
     memcpy(bad_row, advance, sizeof advance);
     bad_row[96] ^= 1; /* of 4: the link of level 2, which row 1 of the state at 2 must equal */
     refused |= prepare_trie();
+    refused |= prepare_van();
     if (refused != 0) fprintf(stderr, "the material can't be made\n");
     return refused == 0;
 }

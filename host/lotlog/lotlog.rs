@@ -42,6 +42,9 @@ pub const CLOSING: u32 = 1;
 /// The bytes of a van's entry beside its data: type, length and seal.
 pub const SEALED_BESIDE: usize = 38;
 
+/// The most bytes of stack that adding a van's entry takes; measured, not proved.
+pub const SEAL_STACK_MOST: usize = 4_096;
+
 /// The `stop` of a whole append: its last store, of the state byte, closes the record.
 pub const WHOLE: u64 = 65;
 
@@ -605,6 +608,17 @@ pub fn seal_add(
             answer,
         )
     })
+}
+
+/// Overwrites [`SEAL_STACK_MOST`] bytes of the stack with zeros, from where the next call would begin: what
+/// [`seal_add`] left there of the key that it was given. Call it where `seal_add` was called, and next.
+#[inline(never)]
+pub fn clear_stack() {
+    let mut room = [1u8; SEAL_STACK_MOST];
+    for byte in &mut room {
+        // volatile, or the stores would be left out since nothing reads the room again
+        unsafe { std::ptr::write_volatile(byte, 0) };
+    }
 }
 
 /// Checks a van's whole log from its first key; answers the number of its entries, and with 24 the

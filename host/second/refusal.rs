@@ -1,12 +1,13 @@
 //! "When the counter says no": the numbers of the table and what stands beside them.
 //!
 //! 1 to 13 are document 01's. "New refusals, here and later, take the next free numbers in the
-//! order named", says document 02, A1, and names 14 to 17; A4 names 18 to 22.
+//! order named", says document 02, A1, and names 14 to 17; A4 names 18 to 22, A6 names 23 to 25.
 
 /// A refused call: its number in the table, the number returned beside it, and where a proof broke.
 ///
 /// "Numbers returned beside a refusal are 0, except the hop count with 10 and 11, the hops good
-/// before a 9, the element of 12, and the 1 or 2 of 13".
+/// before a 9, the element of 12, and the 1 or 2 of 13". A6 adds the entry of 24, which the office
+/// "learns".
 #[derive(Debug, Clone, Copy, PartialEq, Eq)]
 pub struct Refusal {
     pub number: u64,
@@ -41,7 +42,7 @@ pub const TOO_LONG: u64 = 3;
 pub const NO_SUCH_NUMBER: u64 = 4;
 /// "no open record, or count 1,048,575"
 pub const NO_ROOM: u64 = 5;
-/// "lent output too short"
+/// "lent output too short"; and A6's key: "overwritten in 32 lent bytes (else 6)"
 pub const OUTPUT_SHORT: u64 = 6;
 /// "proof length not that of the path"
 pub const PROOF_LENGTH: u64 = 7;
@@ -75,6 +76,12 @@ pub const FILE_VERSION: u64 = 20;
 pub const FILE_COUNT: u64 = 21;
 /// "wrong length"
 pub const FILE_LENGTH: u64 = 22;
+/// "A key of zeros means closed: adding under it is refused."
+pub const LOG_CLOSED: u64 = 23;
+/// "the first entry, from 0, that is cut short, too long, wrongly sealed or after a closing one"
+pub const BAD_ENTRY: u64 = 24;
+/// "no closing entry stands there"
+pub const NOT_CLOSED: u64 = 25;
 
 /// A refusal with 0 beside it.
 pub fn refuse<T>(number: u64) -> Answer<T> {

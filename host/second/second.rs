@@ -1,24 +1,26 @@
-//! The second program: documents 01 and 02 (A1, A2, A4, A5) written down once more, from their text
-//! alone. A3 changes nothing that is seen.
+//! The second program: documents 01 and 02 (A1, A2, A4, A5, A6) written down once more, from their
+//! text alone. A3 changes nothing that is seen.
 //!
 //! It shares no code with the proved crates and follows another plan: it parses a proof into its
-//! components before it looks at any, keeps paths and messages in vectors, forms a trie level by
-//! level from the leaves up, and answers with `Result`. The comparisons in `host/compare` hold
-//! every call of the proved library to it.
+//! components before it looks at any, and a van's log into its entries, keeps paths and messages in
+//! vectors, forms a trie level by level from the leaves up, and answers with `Result`. The
+//! comparisons in `host/compare` hold every call of the proved library to it.
 //!
-//! Words in quotation marks are sentences of document 01, and in [`trie`] and [`saved`], and where a
-//! proof broke, of document 02. Every call is generic over the hash, so that the stand-in can take
-//! the place of SHA-256.
+//! Words in quotation marks are sentences of document 01; in [`trie`], [`saved`] and [`sealed`],
+//! and where a proof broke, of document 02; and in [`mac`] of RFC 2104. Every call is generic over
+//! the hash, so that the stand-in can take the place of SHA-256.
 
 pub mod dispute;
 pub mod hash;
 pub mod held;
+pub mod mac;
 pub mod message;
 pub mod path;
 pub mod program;
 pub mod proof;
 pub mod refusal;
 pub mod saved;
+pub mod sealed;
 pub mod store;
 pub mod trie;
 
@@ -26,6 +28,8 @@ pub mod trie;
 mod place_tests;
 #[cfg(test)]
 mod saved_tests;
+#[cfg(test)]
+mod sealed_tests;
 #[cfg(test)]
 mod tests;
 #[cfg(test)]

@@ -24,7 +24,7 @@ pub fn broken<T>(number: u64, hops: u64, element: u64, level: u64) -> Result<T, 
     Err(Refusal { number, beside: hops, place: Place { element, level } })
 }
 
-fn digest_of_hex(hex: &str) -> Digest {
+pub fn digest_of_hex(hex: &str) -> Digest {
     let mut digest = [0; 32];
     for (place, byte) in digest.iter_mut().enumerate() {
         *byte = u8::from_str_radix(&hex[2 * place..2 * place + 2], 16).expect("two hex digits");

@@ -5,7 +5,7 @@ use std::panic;
 
 use compare::both::Both;
 use compare::faulty::{self, Faulty};
-use compare::{advance, hash, member, places, saved, store, trie, whole, Scale};
+use compare::{advance, hash, member, places, saved, sealed, store, trie, whole, Scale};
 use lotlog::{Answer, Place};
 
 const SEED: u64 = 4;
@@ -50,6 +50,7 @@ fn agreed() -> Both<Faulty<{ faulty::NO_FAULT }>> {
     advance::run(&mut both, Scale::Small);
     saved::run(&mut both, Scale::Small);
     trie::run(&mut both, Scale::Small);
+    sealed::run(&mut both, Scale::Small);
     whole::run(&mut both, SEED, CALLS);
     told_of_members::run(&mut both, Scale::Small);
     told_of_steps::run(&mut both, Scale::Small);
@@ -80,6 +81,36 @@ fn unnoticed_of_proofs() -> Vec<&'static str> {
     }
 }
 
+/// Runs a group on each fault of the vans' logs.
+macro_rules! unnoticed_of_sealed {
+    ($group:ident) => {
+        unnoticed! {
+            $group: HASHES_A_KEY_OF_64 LEAVES_A_KEY_OF_65 KEY_FILLED_IN_FRONT PADS_SWAPPED
+                INNER_HASH_ALONE KEY_MOST_ONE_LESS KEY_MOST_ONE_MORE MESSAGE_MOST_ONE_LESS
+                MESSAGE_MOST_ONE_MORE MESSAGE_OF_ANY_LENGTH REFUSED_MAC_IS_ZEROS OLD_KEY_KEPT
+                LAST_OF_THE_OLD_KEY_STAYS CLOSING_LEAVES_A_KEY SEAL_OVER_THE_DATA
+                SEAL_UNDER_THE_NEXT_KEY CHAIN_WITHOUT_THE_TYPE CHAIN_WITHOUT_ITS_06
+                TYPE_TURNED_IN_THE_CHAIN TYPE_LITTLE_ENDIAN LENGTH_LITTLE_ENDIAN
+                INCREMENTS_WITH_ANOTHER_TEXT TEXT_BEHIND_THE_KEY CLOSES_WITHOUT_DATA_ALONE
+                CLOSES_BY_THE_LAST_BYTE CLOSES_BY_TWO_BYTES CLOSES_FROM_THE_OTHER_END ADDS_4095_AT_MOST
+                ADDS_4097 TAKES_A_KEY_OF_31 TAKES_A_KEY_OF_33 ROOM_OF_ONE_LESS ROOM_OF_ONE_MORE
+                ROOM_BEFORE_THE_DATA CLOSED_BEFORE_THE_ROOM ADDS_UNDER_ZEROS CLOSED_BY_31_ZEROS
+                CHAIN_NOT_MOVED CHAIN_MOVED_ON_A_REFUSAL KEY_MOVED_ON_A_REFUSAL WRITES_ON_A_REFUSAL
+                CLEARS_BEHIND_THE_ENTRY LENGTH_BESIDE_A_REFUSAL NEEDS_NO_CLOSE TAKES_AN_EMPTY_LOG
+                NUMBER_BESIDE_25 CLOSE_BEFORE_THE_ENTRIES NAMES_THE_ENTRY_BEFORE NAMES_THE_ENTRY_AFTER
+                NAMES_THE_LAST_ENTRY STRAY_BYTES_IGNORED STOPS_AT_THE_CLOSE TAKES_ENTRIES_AFTER_A_CLOSE
+                CHECKS_4095_AT_MOST CHECKS_4097 CHECKS_ANY_LENGTH REFUSES_A_FIRST_KEY_OF_ZEROS
+                LAST_OF_THE_SEAL_NOT_COMPARED PART_OF_A_SEAL_TAKEN PART_OF_A_HEAD_IGNORED
+                LAST_SEAL_ALONE SHAPE_BEFORE_THE_SEALS OFFICE_KEEPS_THE_KEY COUNTS_WITHOUT_THE_CLOSE;
+        }
+    };
+}
+
+/// The faults of the vans' logs that are not noticed.
+fn unnoticed_of_sealed() -> Vec<&'static str> {
+    [unnoticed_of_sealed!(sealed), unnoticed_of_sealed!(told_of_seals)].concat()
+}
+
 /// The other faults that are not noticed.
 fn unnoticed_of_others() -> Vec<&'static str> {
     unnoticed! {
@@ -103,7 +134,8 @@ fn unnoticed_of_others() -> Vec<&'static str> {
             ABSENCE_NEEDS_A_SIBLING PART_OF_A_SIBLING_IGNORED NAMES_THE_ABSENCE
             PROOFS_BEFORE_THE_BUFFERS;
         everything: PADDING_AT_55_BYTES CLOSES_TOO_EARLY IGNORES_A_TAIL NEVER_CHECKS_ROWS
-            ROWS_HIGHEST_FIRST TAIL_OF_A_FILE_IGNORED TAKES_ANY_ROOT NAMES_THE_LINK_OF_A_ROW;
+            ROWS_HIGHEST_FIRST TAIL_OF_A_FILE_IGNORED TAKES_ANY_ROOT NAMES_THE_LINK_OF_A_ROW
+            OLD_KEY_KEPT NAMES_THE_ENTRY_AFTER HASHES_A_KEY_OF_64;
     }
 }
 
@@ -111,7 +143,7 @@ fn main() {
     words();
     let Both { calls, told, .. } = agreed();
     panic::set_hook(Box::new(|_| ()));
-    let unnoticed = [unnoticed_of_proofs(), unnoticed_of_others()].concat();
+    let unnoticed = [unnoticed_of_proofs(), unnoticed_of_sealed(), unnoticed_of_others()].concat();
     if !unnoticed.is_empty() {
         eprintln!("faults that were not noticed: {}", unnoticed.join(", "));
         std::process::exit(1);
@@ -123,11 +155,12 @@ fn main() {
 /// The group `whole` in the shape of the others.
 mod everything {
     use super::*;
-    use compare::calls::{AdvanceCalls, HashCalls, MemberCalls, SavedCalls, StoreCalls, TrieCalls};
+    use compare::calls::{AdvanceCalls, HashCalls, MemberCalls, SavedCalls};
+    use compare::calls::{SealCalls, StoreCalls, TrieCalls};
 
     pub fn run<C>(both: &mut Both<C>, _: Scale)
     where
-        C: HashCalls + StoreCalls + MemberCalls + AdvanceCalls + SavedCalls + TrieCalls,
+        C: HashCalls + StoreCalls + MemberCalls + AdvanceCalls + SavedCalls + TrieCalls + SealCalls,
     {
         whole::run(both, SEED, CALLS);
     }
@@ -158,5 +191,15 @@ mod told_of_steps {
     pub fn run<C: AdvanceCalls>(_: &mut Both<C>, scale: Scale) {
         let mut alone = Both::<C, C>::default();
         places::run::<Step, C, C>(&mut alone, &sound(300, 0), scale);
+    }
+}
+
+/// The same of a van's log and of what it is told.
+mod told_of_seals {
+    use super::*;
+    use compare::calls::SealCalls;
+
+    pub fn run<C: SealCalls>(_: &mut Both<C>, scale: Scale) {
+        sealed::run(&mut Both::<C, C>::default(), scale);
     }
 }
