@@ -10,7 +10,8 @@ use std::path::PathBuf;
 use std::{env, fs, process};
 
 use lotlog::file::{load_held, save_held, Error, Refusal};
-use lotlog::{store_bytes, Answer, Digest, Held, Side, TRIE_PROOF_MOST, WHOLE};
+use lotlog::{store_bytes, Answer, Digest, Held, Side};
+use lotlog::{CLOSING, SEALED_BESIDE, TRIE_PROOF_MOST, WHOLE};
 
 const LOG: u64 = 7;
 const ROOM: usize = 16;
@@ -22,6 +23,9 @@ const CUT: u64 = 40;
 const WITHDRAWN: [&str; 3] = ["AR-30972", "CB-14877", "SU-27003"];
 const SOUND: &str = "MV-40018";
 const SOUND_PROOF: u64 = 64;
+
+/// The van's first key, which the office keeps; a real one is drawn at random.
+const FIRST_KEY: Digest = [42; 32];
 
 /// A lot in the log.
 #[derive(Clone, Copy)]
@@ -328,6 +332,48 @@ fn check_both(files: &Files) {
     tell_alone(&format!("check that {} is not", WITHDRAWN[0]), check(WITHDRAWN[0]), 17, "");
 }
 
+/// The van seals an entry, and keeps key, chain and log in files.
+fn seal(files: &Files, kind: u32, data: &str) -> Answer {
+    let mut key: Digest = files.array("van.key");
+    let mut chain: Digest = files.array("van.chain");
+    let mut out = vec![0; data.len() + SEALED_BESIDE];
+    let answer = lotlog::seal_add(&mut key, &mut chain, kind, data.as_bytes(), &mut out);
+    lotlog::clear_stack();
+    if answer.number == 0 {
+        files.write("van.key", &key);
+        files.write("van.chain", &chain);
+        files.write("van.log", &[files.read("van.log"), out].concat());
+    }
+    answer
+}
+
+/// A van's way, from its first key to the entry that closes its log.
+fn drive(files: &Files) {
+    files.write("van.key", &FIRST_KEY);
+    files.write("van.chain", &[0; 32]);
+    files.write("van.log", b"");
+    for (kind, data) in [(2, "40 boxes loaded"), (3, "door opened"), (CLOSING, "back")] {
+        let length = (data.len() + SEALED_BESIDE) as u64;
+        tell_named(&format!("seal: {}", data), seal(files, kind, data), [0, length], "length");
+    }
+    tell("seal: one more", seal(files, 2, "one more"), [23, 0], "");
+}
+
+/// The office checks the log, and what a thief would like it to be.
+fn check_van(files: &Files) {
+    let log = files.read("van.log");
+    let check = |log: &[u8]| lotlog::seal_check(&FIRST_KEY, log);
+    tell_named("check the van's log", check(&log), [0, 3], "entries");
+    let first = "40 boxes loaded".len() + SEALED_BESIDE;
+    let second = "door opened".len() + SEALED_BESIDE;
+    let without = [&log[..first], &log[first + second..]].concat();
+    tell_named("without the door that was opened", check(&without), [24, 1], "entry");
+    let mut changed = log.clone();
+    changed[6] = b'3';
+    tell_named("with 30 boxes", check(&changed), [24, 0], "entry");
+    tell("ended before the door was opened", check(&log[..first]), [25, 0], "");
+}
+
 fn story(lots: &[&[u8]], files: &Files) {
     println!("The house starts log {} in a file with room for {} lots.", LOG, ROOM);
     start(files);
@@ -363,6 +409,10 @@ fn story(lots: &[&[u8]], files: &Files) {
     list_withdrawn(files);
     prove_both(files);
     check_both(files);
+
+    println!("A van seals what happens on its way; the office knows its first key.");
+    drive(files);
+    check_van(files);
     println!("Every answer is the expected one.");
 }
 

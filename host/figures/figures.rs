@@ -21,6 +21,7 @@ use second::path::{advancement, membership};
 use second::proof::{check_membership, proof_of};
 use second::refusal::Refusal;
 use second::saved::file_of;
+use second::sealed::{self, BESIDE_DATA, CLOSING, FIRST_CHAIN};
 use second::store::{store_of, Log};
 use second::trie::{self, Kind, PROOF_MOST};
 use second::Digest;
@@ -137,6 +138,21 @@ fn print_broken<H: Hash>(hash: &str) {
     }
 }
 
+/// What a van of three entries leaves: the chain and the next key of each, and the log.
+fn print_van<H: Hash>(hash: &str) {
+    let mut key: Digest = std::array::from_fn(|place| place as u8 + 1);
+    let (mut chain, mut log) = (FIRST_CHAIN, Vec::new());
+    let entries = [(2, &b"door opened"[..]), (u32::MAX, b""), (CLOSING, b"day")];
+    for (j, (kind, data)) in entries.into_iter().enumerate() {
+        let mut out = vec![0; data.len() + BESIDE_DATA];
+        sealed::add::<H>(&mut key, &mut chain, kind, data, &mut out).expect("a short entry");
+        print(&format!("{}.van.Y({})", hash, j), &chain);
+        print(&format!("{}.van.A({})", hash, j + 1), &key);
+        log.extend(out);
+    }
+    print(&format!("{}.van.log", hash), &log);
+}
+
 fn main() {
     for (j, entry) in (1..).zip(entries()) {
         print(&format!("entry({})", j), &entry);
@@ -149,4 +165,6 @@ fn main() {
     print_files::<Sha256>("sha256");
     print_broken::<Xor>("standin");
     print_broken::<Sha256>("sha256");
+    print_van::<Xor>("standin");
+    print_van::<Sha256>("sha256");
 }

@@ -11,7 +11,6 @@ use Rattle.rules.specs.Calls.{refuses}
 use Rattle.seals.specs.Chain.{chained, nextKey, stored}
 use Rattle.seals.specs.Refusals.{notClosed}
 use Rattle.seals.specs.Calls.{sizeOf, wrongAt, checkCall}
-use Rattle.seals.specs.Office.{Good}
 use Rattle.seals.specs.Entries.{Entry, closes, logOf, entryAt, keyAt, chainTo, Obeys, ends}
 use Rattle.seals.specs.Reading.{stored-length, size-read}
 use Rattle.seals.specs.Walked.{seal-length}

@@ -17,4 +17,5 @@ pub mod Closed  -- AFTER CLOSING NO KEY IS LEFT
 pub mod Honest  -- EVERY LOG THE VAN BEGINS AND CLOSES PASSES
 pub mod Learnt  -- 24 AND 25 SAY EXACTLY what the office learns
 pub mod Cut  -- a log that was accepted, CUT OFF ANYWHERE
+pub mod Clashing  -- two chains with one last value say the same, or messages clash
 pub mod Binding  -- THE LAST Y BINDS A LOG, or the hash is broken
