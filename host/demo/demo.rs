@@ -332,16 +332,19 @@ fn check_both(files: &Files) {
     tell_alone(&format!("check that {} is not", WITHDRAWN[0]), check(WITHDRAWN[0]), 17, "");
 }
 
-/// The van seals an entry, and keeps key, chain and log in files.
-fn seal(files: &Files, kind: u32, data: &str) -> Answer {
-    let mut key: Digest = files.array("van.key");
-    let mut chain: Digest = files.array("van.chain");
+/// What a van has in memory: never in a file, since a disk keeps what is overwritten.
+struct Van {
+    key: Digest,
+    chain: Digest,
+}
+
+/// The van seals an entry, and puts it behind its log.
+fn seal(files: &Files, van: &mut Van, kind: u32, data: &str) -> Answer {
     let mut out = vec![0; data.len() + SEALED_BESIDE];
-    let answer = lotlog::seal_add(&mut key, &mut chain, kind, data.as_bytes(), &mut out);
+    let Van { key, chain } = van;
+    let answer = lotlog::seal_add(key, chain, kind, data.as_bytes(), &mut out);
     lotlog::clear_stack();
     if answer.number == 0 {
-        files.write("van.key", &key);
-        files.write("van.chain", &chain);
         files.write("van.log", &[files.read("van.log"), out].concat());
     }
     answer
@@ -349,14 +352,14 @@ fn seal(files: &Files, kind: u32, data: &str) -> Answer {
 
 /// A van's way, from its first key to the entry that closes its log.
 fn drive(files: &Files) {
-    files.write("van.key", &FIRST_KEY);
-    files.write("van.chain", &[0; 32]);
+    let mut van = Van { key: FIRST_KEY, chain: [0; 32] };
     files.write("van.log", b"");
     for (kind, data) in [(2, "40 boxes loaded"), (3, "door opened"), (CLOSING, "back")] {
+        let answer = seal(files, &mut van, kind, data);
         let length = (data.len() + SEALED_BESIDE) as u64;
-        tell_named(&format!("seal: {}", data), seal(files, kind, data), [0, length], "length");
+        tell_named(&format!("seal: {}", data), answer, [0, length], "length");
     }
-    tell("seal: one more", seal(files, 2, "one more"), [23, 0], "");
+    tell("seal: one more", seal(files, &mut van, 2, "one more"), [23, 0], "");
 }
 
 /// The office checks the log, and what a thief would like it to be.

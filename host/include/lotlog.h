@@ -107,6 +107,7 @@ extern "C" {
 #define LOT_MAC_MOST 65472        /* the longest message of lot_mac, in bytes */
 #define LOT_SEAL_KEY_BYTES 32
 #define LOT_SEAL_CLOSING 1u       /* the type of the entry that closes a van's log */
+#define LOT_SEAL_STACK_MOST 4096  /* the most stack that lot_seal_add takes, in bytes; measured */
 
 /* The bytes of a van's entry with so many of data. */
 #define LOT_SEALED_BYTES(data_length) ((size_t)38 + (size_t)(data_length))
@@ -245,8 +246,8 @@ uint64_t lot_mac(const uint8_t *key, size_t key_length, const uint8_t *message,
 /* Adds an entry to a van's log: writes it to the start of `out` and leaves the rest of `out`. The key
    is overwritten by the next one, or by zeros if the type is 1, and `chain` becomes Y with this entry.
    Before the first entry the key is A(0) and `chain` 32 zero bytes; from call to call both are handed
-   on as they are. What a call leaves of the key on the stack below it is the caller's to clear
-   (README, "For the van's engineer").
+   on as they are. What the call leaves of the old key on the stack, up to LOT_SEAL_STACK_MOST bytes
+   below the caller, is the caller's to clear (README, "For the van's engineer").
    Refusals: 3 for data over 4,096 bytes; 6 for a key that is not of 32 bytes, or an `out` under
    LOT_SEALED_BYTES(data_length); 23 for a key of zeros. Answer: the bytes of the entry. */
 uint64_t lot_seal_add(uint8_t *key, size_t key_length, uint8_t chain[32], uint32_t kind,

@@ -586,7 +586,8 @@ pub fn mac(key: &[u8], message: &[u8], mac: &mut Digest) -> u64 {
 
 /// Adds an entry to a van's log: writes it to the start of `out` and answers its length. The key, of
 /// 32 bytes, becomes the next one, or zeros behind an entry of type [`CLOSING`], and `chain`, 32 zero
-/// bytes before the first entry, goes with it from call to call. Refusals: 3, 6, 23.
+/// bytes before the first entry, goes with it from call to call. Call [`clear_stack`] next: parts of
+/// the old key are left on the stack. Refusals: 3, 6, 23.
 #[inline]
 pub fn seal_add(
     key: &mut [u8],

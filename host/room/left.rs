@@ -71,7 +71,8 @@ fn finds(stack: &[u8], key: &[u8; 32]) -> usize {
     let mut found = 0;
     for pad in [0, 0x36, 0x5C] {
         let padded = key.map(|byte| byte ^ pad);
-        let swapped: Vec<u8> = padded.chunks(4).flat_map(|word| word.iter().rev().copied()).collect();
+        let swapped: Vec<u8> =
+            padded.chunks(4).flat_map(|word| word.iter().rev().copied()).collect();
         for part in padded.windows(IN_A_ROW).chain(swapped.chunks(IN_A_ROW)) {
             found += stack.windows(IN_A_ROW).filter(|place| *place == part).count();
         }
