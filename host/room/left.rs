@@ -8,8 +8,8 @@ use std::ptr;
 
 const STACK: usize = 1 << 16;
 
-/// The bytes at the top of the stack that are the caller's own: its frame and the return addresses.
-const CALLER: usize = 256;
+/// The bytes at the top of the stack that may be the caller's own: its frame and the return addresses.
+const CALLER: usize = 128;
 
 /// How many bytes of a key in a row are a find.
 const IN_A_ROW: usize = 4;
