@@ -18,7 +18,7 @@ use Rattle.outside.specs.Agree.{flat, agree}
 
 -- the state held at n, from its digest and its first two rows
 abbrev state : ℕ → Bytes → Bytes → Bytes → Held
-state n d r0 r1 = record { log = 7; count = n; digest = d; rows = r0 ∷ r1 ∷ replicate 18 (replicate 32 0) }
+state n d r0 r1 = record { log = 7; count = n; digest = d; rows = r0 ∷ r1 ∷ replicate 30 (replicate 32 0) }
 
 -- those at 2 and at 3
 abbrev two : Held
@@ -48,8 +48,8 @@ computed =
     ∷ (reads made.savedNone, 0 ∷ told (heldStart hashOf v1 7))
     ∷ (reads made.savedTwo, 0 ∷ told two)
     ∷ (reads made.savedThree, 0 ∷ told three)
-    ∷ (reads [], 18 ∷ replicate 674 0)
-    ∷ (says (take 52 made.savedNone) ∷ says (set made.savedTwo 2 76) ∷ says (set made.savedTwo 4 2) ∷ says (set made.savedTwo 18 16) ∷ [], 18 ∷ 19 ∷ 20 ∷ 21 ∷ [])
+    ∷ (reads [], 18 ∷ replicate 1058 0)
+    ∷ (says (take 52 made.savedNone) ∷ says (set made.savedTwo 2 76) ∷ says (set made.savedTwo 4 2) ∷ says (set made.savedTwo 16 1) ∷ [], 18 ∷ 19 ∷ 20 ∷ 21 ∷ [])
     ∷ (says (set made.savedTwo 20 3) ∷ says (made.savedTwo ++ (0 ∷ [])) ∷ says (set made.savedNone 12 8) ∷ [], 22 ∷ 22 ∷ 2 ∷ [])
     ∷ []
 

@@ -1,10 +1,11 @@
 -- A path from an even element is a path at half the size, doubled. So one more level adds at most a hop and a link to each component, and an
--- element before them where the path starts at an odd one: the induction behind the bounds.
+-- element before them where the path starts at an odd one: the induction behind the bounds. To the last number of the levels it adds just that, so the bounds are
+-- reached, whatever the number of levels.
 use mathlib.Core.Path.{_≡_, refl, sym, ap, _∙_, subst}
 use mathlib.Core.Logic.{_⊎_, inl, inr}
 use mathlib.Core.List.{List, [], _∷_, _++_, map}
 use Prim.Native.Nat.{ℕ, zero, suc, _+_, _-_, _*_, _/_, _%_, _^_, _≤_, _<_, zero-le, suc-le-suc}
-use native.Mathlib.Nat.{zero-add, le-trans, le-antisymm, pow-suc, mul-mod-left, mul-div-cancel, zero-lt-suc}
+use native.Mathlib.Nat.{zero-add, le-trans, le-antisymm, le-of-suc-le-suc, pow-suc, mul-mod-left, mul-div-cancel, zero-lt-suc}
 use native.Mathlib.Omega.{arith}
 use native.Mathlib.Numerals.{add-one}
 use native.Mathlib.Decide.{decLt}
@@ -14,7 +15,7 @@ use lib.ListN.{length, length-append, length-map}
 use Rattle.rules.specs.Numbers.{Version}
 use Rattle.rules.specs.Paths.{tz, level, hops, after, path, pathAfter}
 use Rattle.rules.specs.Messages.{size, total}
-use Rattle.rules.specs.Hops.{level-below, Hop, Best, level-best, level-max, hops-ind, path-end, after-step, after-end, split-mod, join-mod}
+use Rattle.rules.specs.Hops.{level-below, Hop, Best, level-best, level-max, hops-ind, path-end, after-step, after-end, split-mod, join-mod, tz-divides, tz-max, tz-power}
 
 -- ---- a path from an even element is a path at half the size, doubled
 
@@ -173,4 +174,76 @@ module _ (v : Version) where
   start-bound (suc k) n w top =
       let r = start-bound k (n / 2) (omega arith) (let e = pow-suc 2 k in omega arith) in
       let d = double-bound 0 n (le-trans top (pow-mono w)) zero-le in
+      (omega (arith, r .0, d .0), omega (arith, r .0, r .1, d .1))
+
+-- ---- the bounds are reached, by the path from 1 and the path from 0 to the last number of k levels
+
+-- A double has one trailing zero more, where 64 bits hold it.
+tz-double : (j : ℕ) → 1 ≤ j → j < 2 ^ 63 → tz (j * 2) ≡ suc (tz j)
+tz-double j lo hi =
+    let few = level-below (tz j) 63 j (tz-power j lo) hi in
+    let two : j * 2 % 2 ^ suc (tz j) ≡ 0 = join-mod (j * 2) (tz j) (mul-mod-left j 2) (rw (mul-div-cancel j (zero-lt-suc 1)) (tz-divides 64 j)) in
+    le-antisymm (tz-dbl 63 j) (tz-max 64 (j * 2) (suc (tz j)) (omega arith) two)
+
+-- the last number of suc k levels is odd, and its half is that of k levels
+last-half : (k : ℕ) → ((2 ^ suc k - 1) / 2 ≡ 2 ^ k - 1) × ((2 ^ suc k - 1) % 2 ≡ 1) × (2 ^ suc k - 1 < 2 ^ suc k)
+last-half k = let two = pow-suc 2 k in let pos = pow-pos k in (omega arith, omega arith, omega arith)
+
+module _ (v : Version) where
+  -- each component of a path grows by a link, at twice the size
+  total-double : (a m : ℕ) → m < 2 ^ 63 → a ≤ m → total v (map dbl (pathAfter a m)) ≡ total v (pathAfter a m) + 32 * length (pathAfter a m)
+  total-double a m h k = hops-ind (λ a ls. total v (map dbl (after a ls)) ≡ total v (after a ls) + 32 * length (after a ls)) m refl step a k
+    where
+      step : (i l : ℕ) (ls : List ℕ) → Best i m l → total v (map dbl (after (i + 2 ^ l) ls)) ≡ total v (after (i + 2 ^ l) ls) + 32 * length (after (i + 2 ^ l) ls)
+          → total v (map dbl (after i (l ∷ ls))) ≡ total v (after i (l ∷ ls)) + 32 * length (after i (l ∷ ls))
+      step i l ls b r =
+          let pos = pow-pos l in
+          let t = tz-double (i + 2 ^ l) (omega arith) (omega (arith, b .hop .reaches)) in
+          omega arith
+
+  -- from an even number to the last one of suc k levels: the path to that of k levels, doubled, and the last number
+  double-last : (a k : ℕ) → suc k ≤ 64 → a ≤ 2 ^ k - 1 →
+      let js = pathAfter a (2 ^ k - 1) in
+      (length (pathAfter (a * 2) (2 ^ suc k - 1)) ≡ length js + 1)
+      × (total v (pathAfter (a * 2) (2 ^ suc k - 1)) ≡ total v js + 32 * length js + (v .before + 64))
+  double-last a k w h =
+      let n = 2 ^ suc k - 1 in
+      let js = pathAfter a (2 ^ k - 1) in
+      let p = last-half k in
+      let most = pow-mono w in
+      let half = pow-suc 2 63 in
+      let up = pow-mono (le-of-suc-le-suc w) in
+      let pos = pow-pos k in
+      let e : pathAfter (a * 2) n ≡ map dbl js ++ (n ∷ []) =
+      double-after a n (omega (arith, p .2)) (rw (p .0) h) ∙ rw (p .0, p .1) in
+      let d = total-double a (2 ^ k - 1) (omega arith) h in
+      let s = total-append v (map dbl js) (n ∷ []) in
+      let f = length-append (map dbl js) (n ∷ []) in
+      let g = length-map js dbl in
+      let t = tz-odd 63 n 0 (p .1) in
+      rw e (omega arith, omega arith)
+
+  -- From 1 to the last number of suc k levels there are 2 k hops, and behind the first component so many bytes.
+  pub path-reached : (k : ℕ) → suc k ≤ 64 →
+      (length (pathAfter 1 (2 ^ suc k - 1)) ≡ 2 * k) × (total v (pathAfter 1 (2 ^ suc k - 1)) ≡ 2 * k * (v .before + 64) + 32 * (k * k))
+  unfolding path trailingZeros
+  path-reached zero w = rw (after-end 1) (omega arith, omega arith)
+  path-reached (suc k) w =
+      let n = 2 ^ suc (suc k) - 1 in
+      let r = path-reached k (omega arith) in
+      let two = pow-suc 2 (suc k) in
+      let four = pow-suc 2 k in
+      let pos = pow-pos k in
+      let d = double-last 1 (suc k) w (omega arith) in
+      let e : pathAfter 1 n ≡ 2 ∷ pathAfter (1 * 2) n = one-hop 1 n (omega arith) (inl refl) in
+      let t : tz 2 ≡ 1 = refl in
+      rw e (omega (arith, r .0, d .0), omega (arith, r .0, r .1, d .1))
+
+  -- From 0 there are k hops to the last number of k levels.
+  pub start-reached : (k : ℕ) → k ≤ 64 →
+      (length (pathAfter 0 (2 ^ k - 1)) ≡ k) × (total v (pathAfter 0 (2 ^ k - 1)) ≡ k * (v .before + 48) + 16 * (k * k))
+  start-reached zero w = rw (after-end 0) (omega arith, omega arith)
+  start-reached (suc k) w =
+      let r = start-reached k (omega arith) in
+      let d = double-last 0 k w zero-le in
       (omega (arith, r .0, d .0), omega (arith, r .0, r .1, d .1))

@@ -9,7 +9,7 @@ use Rattle.lists.specs.Bytes.{Bytes, same, zeros}
 use Rattle.rules.specs.Numbers.{Version, limit}
 use Rattle.rules.specs.Messages.{startMsg}
 
--- "Log number, count n, T(n), and a basis: twenty rows of 32 bytes, one for each level."
+-- "Log number, count n, T(n), and a basis: twenty rows of 32 bytes, one for each level." 02, A7: "Held states get thirty-two rows".
 pub record Held : Type 0 where
   pub log : ℕ
   pub count : ℕ

@@ -12,8 +12,9 @@ pub mod Calls  -- the whole outcome of each public call
 pub mod Figures  -- the starred figures
 pub mod Verdicts  -- passing and failing checks, asked numbers, messages of an element
 pub mod Hops  -- trailing zeros, hop levels, the hops of a path
-pub mod Halving  -- paths at half the size, the induction behind the bounds
+pub mod Halving  -- paths at half the size, the induction behind the bounds, which are reached
 pub mod Bounds  -- the most hops, the longest proof, component and message
+pub mod Wider  -- MORE LEVELS MOVE NOTHING BELOW THE LIMIT THAT WAS
 pub mod Parity  -- the lowest bit of a number, and the next number
 pub mod Carrying  -- one hop on the rows of any state
 pub mod Walking  -- the two checks hop by hop, at the numbers that code has
