@@ -16,7 +16,7 @@ use hash::Digest;
 use path::Length;
 
 // The rows of a basis, one for each level.
-pub const LEVELS: usize = 20;
+pub const LEVELS: usize = path::LEVELS;
 
 // A log number, the count of its elements, the digest of the last, and the basis: a row for each level.
 pub struct Held {
@@ -53,6 +53,20 @@ pub fn all_zeros() -> Held
     }
 }
 
+// Whether a row is zero. Its bytes are added up, with no test at each: most rows of a state are free, and a sum of bytes is quick.
+fn is_zero(row: Digest) -> bool
+    ensures { λ r. ⌜ r ≡ same (row .bytes) zeros ⌝ }
+{
+    let bytes = row.bytes;
+    let mut sum: u64 = 0;
+    let mut k: usize = 0;
+    while k < 32 {
+        sum += lists::wide(bytes[k]);
+        k += 1;
+    }
+    sum == 0
+}
+
 // Whether a row may stand as it is: the lowest bit of q tells if it is in use, and a free row is zero.
 fn may_stand(q: u64, row: Digest) -> bool
     ensures { λ r. ⌜ r ≡ (odd q || same (row .bytes) zeros) ⌝ }
@@ -60,7 +74,7 @@ fn may_stand(q: u64, row: Digest) -> bool
     if q % 2 == 1 {
         return true;
     }
-    messages::same_digest(row, Digest { bytes: [0u8; 32] })
+    is_zero(row)
 }
 
 // Whether the free rows are zero.

@@ -45,7 +45,8 @@ pub fn row_at(s: &[u8], at: usize) -> [u8; 32]
     row
 }
 
-fn wide(x: u8) -> u64
+// A byte as a number.
+pub fn wide(x: u8) -> u64
     ensures { λ r. ⌜ (r ≡ x) × (r < 256) ⌝ }
 {
     x as u64

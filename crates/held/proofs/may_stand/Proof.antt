@@ -7,11 +7,11 @@ use Rattle.held.proofs.may_stand.Tie as tie
 returns : tie.Need-returns
 returns c = rw (eq-eqb _ _ (c .if1 .taken))
 
-same-digest-requires : tie.Need-same-digest-requires
-same-digest-requires c κs = search needs
+is-zero-requires : tie.Need-is-zero-requires
+is-zero-requires c κs = search needs
 
 returns-2 : tie.Need-returns-2
-returns-2 c = rw (ne-eqb _ _ (c .before .if1 .left)) (c .same-digest .ensures)
+returns-2 c = rw (ne-eqb _ _ (c .before .if1 .left)) (c .is-zero .ensures)
 
 pub may-stand-spec : {M : Type 1} → statement M
-may-stand-spec = tie.close (tie.spec returns same-digest-requires returns-2)
+may-stand-spec = tie.close (tie.spec returns is-zero-requires returns-2)
