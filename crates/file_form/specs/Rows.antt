@@ -37,7 +37,7 @@ unfolding ones onesIn
 none-left zero h = refl
 none-left (suc q) h = absurd (omega arith)
 
-half-left : (q k : ℕ) → q < 2 ^ suc k → q / 2 < 2 ^ k
+pub half-left : (q k : ℕ) → q < 2 ^ suc k → q / 2 < 2 ^ k
 half-left q k h = let e = pow-suc 2 k in omega arith
 
 -- ---- how many bytes they are

@@ -12,14 +12,17 @@ use Rattle.hash.specs.Hash.{hashOf}
 use Rattle.rules.specs.Numbers.{v1}
 use Rattle.rules.specs.Refusals.{done}
 use Rattle.rules.specs.Held.{Sized, inOrder}
+use Rattle.rules.specs.Held as rules
 use Rattle.rules.specs.Calls.{HeldFound, heldFound, written, gives, over, advanceCall}
 use Rattle.rules.specs.Calls as calls
 use Rattle.rules.specs.OneOutcome.{One, one-outcome}
+use Rattle.rules.specs.Wider.{widened, twenty}
 use Rattle.held.specs.declared.Held.{Held}
 use Rattle.held.specs.Holding.{holds, held-one}
 use Rattle.file_form.specs.Form.{fileOf, fileSize}
 use Rattle.file_form.specs.Calls.{writeCall, readCall}
 use Rattle.file_form.specs.Back.{file-size, order-few}
+use Rattle.file_form.specs.Wider.{older-reads}
 use Rattle.file_form.specs.OneFile.{Writes, writes, writes-file, broken-refused, file-reads, read-in-order, read-writes}
 use Rattle.saved.specs.Told.{savedTold, savedFrom, saved-back, fileTold, fileFrom, told-back}
 use Rattle.saved.specs.declared.Saved.{Saved}
@@ -106,3 +109,17 @@ module _ (f : Bytes) (bytes : AreBytes f) (r : FileRead) (read : fileTold r ≡ 
     -- and every byte; what stands behind it stays.
     pub read-same : o ≡ f ++ drop (length f) out
     read-same = ap (λ (w : calls.Written). w .bytes) again
+
+-- ---- "A file from A4 still reads, since it holds used rows only" (02, A7): what the build before it read, with twenty rows, as the state h
+
+module _ (f : Bytes) (h : rules.Held) (old : readCall hashOf twenty f ≡ heldFound done h) (r : FileRead) (read : fileTold r ≡ readCall hashOf v1 f) where
+  older : fileTold r ≡ heldFound done (widened 12 h)
+  older = read ∙ older-reads hashOf 12 twenty f h old
+
+  -- A FILE THAT READ READS,
+  pub older-done : r .reading ≡ Done
+  older-done = ap (λ (x : FileRead). x .reading) (sym (told-back r) ∙ ap fileFrom older)
+
+  -- AS THE STATE THAT IT GAVE, with twelve further rows, which are free; and so it gives itself back when written, by `read-written` and `read-same`.
+  pub older-same : holds (r .held) ≡ widened 12 h
+  older-same = ap (λ (x : HeldFound). x .held) older
