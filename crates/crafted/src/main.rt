@@ -74,13 +74,13 @@ fn run(
 
 // Two proofs for (i, n): the second is forged anew up to this place on the path, and as the first behind it.
 fn lie(entry1: &[u8], entry2: &[u8], i: Position, n: Length, place: u64) {
-    let mut proof1 = [0u8; 14048];
-    let mut proof2 = [0u8; 14048];
+    let mut proof1 = [0u8; path::PROOF_MOST];
+    let mut proof2 = [0u8; path::PROOF_MOST];
     let digest = forge::forge(entry1, i, n, 3, forge::NOWHERE, b"", &mut proof1);
     forge::forge(entry1, i, n, 3, forge::NOWHERE, b"", &mut proof2);
     forge::forge(entry2, i, n, 201, place, &proof1, &mut proof2);
     let len = path::membership_len(i, n);
-    if 14048 < len {
+    if path::PROOF_MOST < len {
         return;
     }
     run(
@@ -127,7 +127,7 @@ fn main() {
     each_place(Position(7), Length(8), 2);
     each_place(Position(5), Length(12), 4);
     each_place(Position(1), Length(7), 5);
-    each_place(Position(1), Length(1048575), 39);
+    each_place(Position(1), Length(path::LIMIT), path::HOPS_MOST as u64 + 1);
     let monday =
         b"0123456789abcdef0123456789abcdeMONDAY, ROOM 1: X-RAY, LEFT SIDETUESDAY, ROOM 2: CLEANING TEETH.";
     let tuesday =

@@ -1,4 +1,5 @@
-// Runs document 01's figures that are not shown as theorems, a line each: what was asked, and what the calls answer.
+// Runs document 01's figures that are not shown as theorems, at the ends that request A7 gives them, a line each: what was asked, and what the calls
+// answer.
 ghost use Prim.Native.Nat.{_≤_};
 use audit::Audited;
 use hash::Digest;
@@ -37,12 +38,12 @@ fn hops(i: Position, n: Length) -> u64
     k
 }
 
-// "1 to 1,048,575: 38 hops, 39 components, 14,048 bytes, the longest."
+// 01: "1 to 1,048,575: 38 hops, 39 components, 14,048 bytes, the longest." 02, A7: "at most 62 hops, the longest proof is 34,784 bytes".
 fn longest() {
     let i = Position(1);
-    let n = Length(path::LIMIT);
+    let n = Length(4_294_967_295);
     let k = hops(i, n);
-    say(b"1 to 1048575: ");
+    say(b"1 to 4294967295: ");
     say_number(k);
     say(b" hops, ");
     say_number(k + 1);
@@ -67,16 +68,16 @@ fn number_of(v: Verdict) -> u64 {
     }
 }
 
-// "Length 1,048,576: 4."
+// 01: "Length 1,048,576: 4." 02, A7: 01's figures "move to the new ends".
 fn over_the_limit() {
     let v = membership::check_membership(
         b"",
         Position(1),
-        Length(1_048_576),
+        Length(4_294_967_296),
         Digest { bytes: [0u8; 32] },
         b"",
     );
-    say(b"length 1048576: ");
+    say(b"length 4294967296: ");
     end_with(number_of(v));
 }
 
