@@ -16,7 +16,7 @@ use openssl::OpenSsl;
 use timing::way;
 
 /// An element with 0 and with 1 trailing zero bits, the longest element, and the longest entry.
-const SIZES: [usize; 4] = [73, 105, 681, 4097];
+const SIZES: [usize; 4] = [73, 105, 1065, 4097];
 
 const ROUNDS: usize = 201;
 const BYTES_IN_A_ROUND: usize = 1 << 17;

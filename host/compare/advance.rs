@@ -1,6 +1,6 @@
 //! The group `advance`: held states, and building and checking advancement proofs.
 
-use lotlog::{Answer, Digest, Held};
+use lotlog::{Answer, Digest, Held, PROOF_MOST};
 use second::hash::Sha256;
 use second::held::{held_of, ROWS};
 use second::message::element_digest;
@@ -9,13 +9,12 @@ use second::proof::proof_of;
 use second::store::{store_of, Log};
 use second::LIMIT;
 
-use crate::both::Both;
-use crate::calls::AdvanceCalls;
+use crate::both::BothAdvance;
 use crate::damage::bit_turned;
-use crate::logs::{entry, first_records, read, sound, LOG};
+use crate::logs::{entry, first_records, read, sound, LOG, OLD_LIMIT, REAL};
 use crate::places;
 use crate::random::Random;
-use crate::second_calls::{held_bytes, Second};
+use crate::second_calls::held_bytes;
 use crate::Scale;
 
 const SEED: u64 = 3;
@@ -23,22 +22,25 @@ const SEED: u64 = 3;
 /// Every advance between lengths up to this one is tried.
 const SMALL: u64 = 40;
 
-/// Where the parts of a held state's 688 bytes begin.
+/// Where the parts of a held state's bytes begin.
 const COUNT: usize = 8;
 pub const DIGEST: usize = 16;
 pub const BASIS: usize = 48;
 
-pub fn run<C: AdvanceCalls>(both: &mut Both<C>, scale: Scale) {
+pub fn run(both: &mut dyn BothAdvance, scale: Scale) {
     let mut random = Random::new(SEED);
     small_steps(both, scale.pick(SMALL, 10), &mut random);
-    let store = sound(scale.pick(LIMIT, 3_000), 0);
+    let store = sound(scale.pick(REAL, 3_000), 0);
     for _ in 0..scale.pick(5, 2) {
         walk(both, &store, &mut random);
     }
-    one_by_one(both, &store, scale.pick(3_000, 300));
-    places::run::<Step, C, Second>(both, &store, scale);
+    let start = both.held_start(LOG);
+    one_by_one(both, &store, start, scale.pick(3_000, 300));
+    places::run::<Step, _>(both, &store, scale);
     if scale == Scale::Full {
         farthest_steps(both, &store, &mut random);
+        let before = held_bytes(&held_of::<Sha256>(&read(&store), OLD_LIMIT - 40));
+        one_by_one(both, &store, before, REAL);
     }
     starts(both);
     changed_element_8(both);
@@ -61,29 +63,29 @@ impl Step {
         Step { held, n, digest: log.digest::<Sha256>(n), proof }
     }
 
-    pub fn check<C: AdvanceCalls, S: AdvanceCalls>(&self, both: &mut Both<C, S>) -> (Answer, Held) {
+    pub fn check<B: BothAdvance + ?Sized>(&self, both: &mut B) -> (Answer, Held) {
         both.check_advancement(&self.held, self.n, &self.digest, &self.proof)
     }
 
     fn with_held(&self, held: &[u8]) -> Step {
-        Step { held: held.try_into().expect("688 bytes"), ..self.clone() }
+        Step { held: held.try_into().expect("the bytes of a state"), ..self.clone() }
     }
 
-    fn with_count(&self, count: u64) -> Step {
+    pub fn with_count(&self, count: u64) -> Step {
         let mut step = self.clone();
         step.held[COUNT..DIGEST].copy_from_slice(&count.to_be_bytes());
         step
     }
 
-    fn with_digest(&self, digest: &[u8]) -> Step {
+    pub fn with_digest(&self, digest: &[u8]) -> Step {
         Step { digest: digest.try_into().expect("32 bytes"), ..self.clone() }
     }
 
-    fn with_n(&self, n: u64) -> Step {
+    pub fn with_n(&self, n: u64) -> Step {
         Step { n, ..self.clone() }
     }
 
-    fn with_proof(&self, proof: Vec<u8>) -> Step {
+    pub fn with_proof(&self, proof: Vec<u8>) -> Step {
         Step { proof, ..self.clone() }
     }
 
@@ -92,7 +94,7 @@ impl Step {
     }
 
     /// The held state with a bit turned in its log number, its digest and in each row.
-    fn damaged_states(&self, random: &mut Random) -> Vec<Step> {
+    pub fn damaged_states(&self, random: &mut Random) -> Vec<Step> {
         let turned = |from: usize, bytes: u64, random: &mut Random| {
             self.with_held(&bit_turned(&self.held, 8 * from + random.below(8 * bytes) as usize))
         };
@@ -102,10 +104,11 @@ impl Step {
     }
 
     /// Other counts, lengths and claimed digests.
-    fn damaged_numbers(&self, random: &mut Random) -> Vec<Step> {
+    pub fn damaged_numbers(&self, random: &mut Random) -> Vec<Step> {
         let count = self.count();
-        let counts = [count + 1, count.wrapping_sub(1), 0, LIMIT, LIMIT + 1, 1 << 40, u64::MAX];
-        let lengths = [self.n + 1, self.n.wrapping_sub(1), 0, LIMIT + 1, 1 << 32, u64::MAX];
+        let near = |number: u64| [number + 1, number.wrapping_sub(1), 0, LIMIT + 1, u64::MAX];
+        let counts = [&near(count)[..], &[LIMIT, 1 << 40, count + (1 << 32)]].concat();
+        let lengths = [&near(self.n)[..], &[self.n + (1 << 32)]].concat();
         let digests = [bit_turned(&self.digest, random.place(256)), vec![0; 32]];
         let mut steps: Vec<Step> = counts.iter().map(|&other| self.with_count(other)).collect();
         steps.extend(lengths.iter().map(|&other| self.with_n(other)));
@@ -133,7 +136,7 @@ impl Step {
 
 /// An honest step is accepted with the path's hops and ends in the store's own state; each damaged
 /// one gets the same answer and the same state from both.
-fn check_step<C: AdvanceCalls>(both: &mut Both<C>, log: &Log, i: u64, n: u64) -> Step {
+fn check_step(both: &mut dyn BothAdvance, log: &Log, i: u64, n: u64) -> Step {
     let step = Step::honest(log, i, n);
     let hops = advancement(i, n).expect("a path").len() as u64;
     let (answer, after) = step.check(both);
@@ -142,7 +145,7 @@ fn check_step<C: AdvanceCalls>(both: &mut Both<C>, log: &Log, i: u64, n: u64) ->
     step
 }
 
-fn check_damaged<C: AdvanceCalls>(both: &mut Both<C>, step: &Step, random: &mut Random) {
+fn check_damaged(both: &mut dyn BothAdvance, step: &Step, random: &mut Random) {
     let damaged =
         [step.damaged_states(random), step.damaged_numbers(random), step.damaged_proofs(random)];
     for step in damaged.concat() {
@@ -151,7 +154,7 @@ fn check_damaged<C: AdvanceCalls>(both: &mut Both<C>, step: &Step, random: &mut 
 }
 
 /// Every step from i to n up to a small length: built, checked and damaged.
-fn small_steps<C: AdvanceCalls>(both: &mut Both<C>, most: u64, random: &mut Random) {
+fn small_steps(both: &mut dyn BothAdvance, most: u64, random: &mut Random) {
     let store = sound(most, 2);
     let log = read(&store);
     for n in 0..=most + 1 {
@@ -167,15 +170,15 @@ fn small_steps<C: AdvanceCalls>(both: &mut Both<C>, most: u64, random: &mut Rand
             }
         }
     }
-    for at in [LIMIT, LIMIT + 1, u64::MAX] {
+    for at in [OLD_LIMIT, LIMIT, LIMIT + 1, LIMIT + 2, u64::MAX] {
         both.held_at(&store, at);
-        both.build_advancement(&store, 0, at, 20_000);
-        both.build_advancement(&store, at, at, 20_000);
+        both.build_advancement(&store, 0, at, PROOF_MOST);
+        both.build_advancement(&store, at, at, PROOF_MOST);
     }
 }
 
 /// A walk from the start to the end of the log in steps of any size, damaged at every step.
-fn walk<C: AdvanceCalls>(both: &mut Both<C>, store: &[u8], random: &mut Random) {
+fn walk(both: &mut dyn BothAdvance, store: &[u8], random: &mut Random) {
     let log = read(store);
     let mut at = 0;
     while at < log.count {
@@ -189,37 +192,41 @@ fn walk<C: AdvanceCalls>(both: &mut Both<C>, store: &[u8], random: &mut Random) 
     }
 }
 
-/// A walk by single elements that goes on from the state handed back each time.
-fn one_by_one<C: AdvanceCalls>(both: &mut Both<C>, store: &[u8], most: u64) {
+/// A walk by single elements from a state, that goes on from the one handed back each time.
+fn one_by_one(both: &mut dyn BothAdvance, store: &[u8], start: Held, most: u64) {
     let log = read(store);
-    let mut held = both.held_start(LOG);
-    for n in 1..=most {
+    let mut held = start;
+    let count = u64::from_be_bytes(held[COUNT..DIGEST].try_into().expect("8 bytes"));
+    for n in count + 1..=most {
         let step = Step { held, ..Step::honest(&log, n - 1, n) };
         held = step.check(both).1;
         assert!(held == held_bytes(&held_of::<Sha256>(&log, n)), "the store's own state at {}", n);
     }
 }
 
-/// The steps to the limit with the most hops, from the start, over the highest level, and by one.
-/// With 38 hops and 13,984 bytes the first is the longest of all.
-fn farthest_steps<C: AdvanceCalls>(both: &mut Both<C>, store: &[u8], random: &mut Random) {
+/// The steps to the old limit with the most hops, from the start, over the level that was the highest
+/// there, and by one; and those past it, by one and to the end.
+fn farthest_steps(both: &mut dyn BothAdvance, store: &[u8], random: &mut Random) {
     let log = read(store);
-    for (i, hops, bytes) in
-        [(1, 38, 13_984), (0, 20, 7_360), (1 << 19, 19, 6_688), (LIMIT - 1, 1, 64)]
-    {
-        let step = check_step(both, &log, i, LIMIT);
-        assert_eq!(
-            (advancement(i, LIMIT).map(|path| path.len()), step.proof.len()),
-            (Ok(hops), bytes)
-        );
+    for (i, n, hops, bytes) in [
+        (1, OLD_LIMIT, 38, 13_984),
+        (0, OLD_LIMIT, 20, 7_360),
+        (1 << 19, OLD_LIMIT, 19, 6_688),
+        (OLD_LIMIT - 1, OLD_LIMIT, 1, 64),
+        (OLD_LIMIT, OLD_LIMIT + 1, 1, 704),
+        (OLD_LIMIT, REAL, 5, 1_216),
+        (0, REAL, 5, 1_216),
+    ] {
+        let step = check_step(both, &log, i, n);
+        assert_eq!((advancement(i, n).map(|path| path.len()), step.proof.len()), (Ok(hops), bytes));
         check_damaged(both, &step, random);
-        both.build_advancement(store, i, LIMIT, bytes);
-        both.build_advancement(store, i, LIMIT, bytes - 1);
+        both.build_advancement(store, i, n, bytes);
+        both.build_advancement(store, i, n, bytes - 1);
     }
 }
 
 /// The state with which a practice begins, and the store's state at 0.
-fn starts<C: AdvanceCalls>(both: &mut Both<C>) {
+fn starts(both: &mut dyn BothAdvance) {
     for log in [0, 1, 7, LOG, 1 << 63, u64::MAX] {
         let store = store_of::<Sha256>(log, 1, std::iter::empty());
         let held = both.held_start(log);
@@ -234,7 +241,7 @@ fn starts<C: AdvanceCalls>(both: &mut Both<C>) {
 
 /// The attack of source 003, appendix A: a house shows version 9 with one element 8, and then makes
 /// version 10 from the digest of another. "Checking links but never basis rows" would accept it.
-fn changed_element_8<C: AdvanceCalls>(both: &mut Both<C>) {
+fn changed_element_8(both: &mut dyn BothAdvance) {
     let shown = store_of::<Sha256>(LOG, 9, (1..=9).map(entry));
     let other = store_of::<Sha256>(LOG, 8, (1..=8).map(|j| entry(if j == 8 { 88 } else { j })));
     let [t8, t9] = [(&other, 8), (&shown, 9)].map(|(store, j)| read(store).digest::<Sha256>(j));

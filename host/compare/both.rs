@@ -1,11 +1,13 @@
 //! Makes a call on both sides and compares all that can be seen of it.
 //!
-//! Each method returns what the two agreed on, so that a group can go on from there.
+//! Each method returns what the two agreed on, so that a group can go on from there. The calls of a
+//! group are a trait, whatever the sides are, and the group's functions take that: so they are
+//! compiled once and not for every two sides.
 
 use std::fmt::Debug;
 use std::marker::PhantomData;
 
-use lotlog::{Answer, Digest, Held, Side};
+use lotlog::{Answer, Digest, Held, Side, HELD_BYTES};
 
 use crate::calls::{AdvanceCalls, HashCalls, MemberCalls, SavedCalls};
 use crate::calls::{SealCalls, StoreCalls, TrieCalls};
@@ -75,6 +77,17 @@ impl<C, S> Both<C, S> {
     }
 }
 
+/// Answers that were also told beforehand are counted.
+pub trait Counted {
+    fn count_told(&mut self);
+}
+
+impl<C, S> Counted for Both<C, S> {
+    fn count_told(&mut self) {
+        self.told += 1;
+    }
+}
+
 impl<C: HashCalls> Both<C> {
     pub fn hash(&mut self, message: &[u8]) -> (u64, Digest) {
         let mut wanted = [BEFORE; 32];
@@ -88,27 +101,40 @@ impl<C: HashCalls> Both<C> {
     }
 }
 
-impl<C: StoreCalls> Both<C> {
-    pub fn start(&mut self, store: &mut [u8], log: u64) -> u64 {
+/// Keeping a store, on both sides.
+pub trait BothStore: Counted {
+    fn start(&mut self, store: &mut [u8], log: u64) -> u64;
+
+    fn count(&mut self, store: &[u8]) -> Answer;
+
+    fn append(&mut self, store: &mut [u8], entry: &[u8], stop: u64) -> Answer;
+
+    fn digest_at(&mut self, store: &[u8], at: u64) -> (u64, Digest);
+
+    fn audit(&mut self, store: &[u8]) -> Answer;
+}
+
+impl<C: StoreCalls, S: StoreCalls> BothStore for Both<C, S> {
+    fn start(&mut self, store: &mut [u8], log: u64) -> u64 {
         let mut ours = Lent::of(store);
         let number = C::start(ours.lend(), log);
-        let wanted = Second::start(store, log);
+        let wanted = S::start(store, log);
         let call = || format!("start of {} bytes, log {}", store.len(), log);
         self.agree(number, wanted, call);
         ours.must_be(store, call);
         wanted
     }
 
-    pub fn count(&mut self, store: &[u8]) -> Answer {
-        let wanted = Second::count(store);
+    fn count(&mut self, store: &[u8]) -> Answer {
+        let wanted = S::count(store);
         self.agree(C::count(store), wanted, || format!("count of {} bytes", store.len()));
         wanted
     }
 
-    pub fn append(&mut self, store: &mut [u8], entry: &[u8], stop: u64) -> Answer {
+    fn append(&mut self, store: &mut [u8], entry: &[u8], stop: u64) -> Answer {
         let mut ours = Lent::of(store);
         let answer = C::append(ours.lend(), entry, stop);
-        let wanted = Second::append(store, entry, stop);
+        let wanted = S::append(store, entry, stop);
         let call = || {
             let (room, length) = (store.len(), entry.len());
             format!("append to {} bytes, entry of {}, stop {}", room, length, stop)
@@ -118,27 +144,53 @@ impl<C: StoreCalls> Both<C> {
         wanted
     }
 
-    pub fn digest_at(&mut self, store: &[u8], at: u64) -> (u64, Digest) {
+    fn digest_at(&mut self, store: &[u8], at: u64) -> (u64, Digest) {
         let mut wanted = [BEFORE; 32];
         let mut ours = Lent::of(&wanted);
         let number = C::digest_at(store, at, ours.lend_array());
-        let wanted_number = Second::digest_at(store, at, &mut wanted);
+        let wanted_number = S::digest_at(store, at, &mut wanted);
         let call = || format!("digest at {} of {} bytes", at, store.len());
         self.agree(number, wanted_number, call);
         ours.must_be(&wanted, call);
         (wanted_number, wanted)
     }
 
-    pub fn audit(&mut self, store: &[u8]) -> Answer {
-        let wanted = Second::audit(store);
+    fn audit(&mut self, store: &[u8]) -> Answer {
+        let wanted = S::audit(store);
         self.agree(C::audit(store), wanted, || format!("audit of {} bytes", store.len()));
         wanted
     }
 }
 
-impl<C: MemberCalls, S: MemberCalls> Both<C, S> {
+/// Membership and disputes, on both sides.
+pub trait BothMember: Counted {
     /// Builds into an output of `room` bytes.
-    pub fn build_membership(&mut self, store: &[u8], i: u64, n: u64, room: usize) -> Answer {
+    fn build_membership(&mut self, store: &[u8], i: u64, n: u64, room: usize) -> Answer;
+
+    fn check_membership(
+        &mut self,
+        entry: &[u8],
+        i: u64,
+        n: u64,
+        digest: &Digest,
+        proof: &[u8],
+    ) -> Answer;
+
+    /// Settles a dispute with two buffers of these lengths.
+    fn dispute(
+        &mut self,
+        sides: [Side; 2],
+        i: u64,
+        n: u64,
+        digest: &Digest,
+        rooms: [usize; 2],
+    ) -> Answer;
+
+    fn differing(&mut self, first: &[u8], second: &[u8], i: u64, n: u64) -> Answer;
+}
+
+impl<C: MemberCalls, S: MemberCalls> BothMember for Both<C, S> {
+    fn build_membership(&mut self, store: &[u8], i: u64, n: u64, room: usize) -> Answer {
         let mut wanted = vec![BEFORE; room];
         let mut ours = Lent::of(&wanted);
         let answer = C::build_membership(store, i, n, ours.lend());
@@ -149,7 +201,7 @@ impl<C: MemberCalls, S: MemberCalls> Both<C, S> {
         wanted_answer
     }
 
-    pub fn check_membership(
+    fn check_membership(
         &mut self,
         entry: &[u8],
         i: u64,
@@ -166,8 +218,7 @@ impl<C: MemberCalls, S: MemberCalls> Both<C, S> {
         wanted
     }
 
-    /// Settles a dispute with two buffers of these lengths.
-    pub fn dispute(
+    fn dispute(
         &mut self,
         sides: [Side; 2],
         i: u64,
@@ -186,7 +237,7 @@ impl<C: MemberCalls, S: MemberCalls> Both<C, S> {
         wanted
     }
 
-    pub fn differing(&mut self, first: &[u8], second: &[u8], i: u64, n: u64) -> Answer {
+    fn differing(&mut self, first: &[u8], second: &[u8], i: u64, n: u64) -> Answer {
         let answer = C::differing(first, second, i, n);
         let wanted = S::differing(first, second, i, n);
         self.agree(answer, wanted, || {
@@ -197,9 +248,28 @@ impl<C: MemberCalls, S: MemberCalls> Both<C, S> {
     }
 }
 
-impl<C: AdvanceCalls, S: AdvanceCalls> Both<C, S> {
-    pub fn held_at(&mut self, store: &[u8], at: u64) -> (u64, Held) {
-        let mut wanted = [BEFORE; 688];
+/// Held states and advancement, on both sides.
+pub trait BothAdvance: Counted {
+    fn held_at(&mut self, store: &[u8], at: u64) -> (u64, Held);
+
+    fn held_start(&mut self, log: u64) -> Held;
+
+    /// Builds into an output of `room` bytes.
+    fn build_advancement(&mut self, store: &[u8], i: u64, n: u64, room: usize) -> Answer;
+
+    /// Advances; returns the answer and the state handed back.
+    fn check_advancement(
+        &mut self,
+        held: &Held,
+        n: u64,
+        digest: &Digest,
+        proof: &[u8],
+    ) -> (Answer, Held);
+}
+
+impl<C: AdvanceCalls, S: AdvanceCalls> BothAdvance for Both<C, S> {
+    fn held_at(&mut self, store: &[u8], at: u64) -> (u64, Held) {
+        let mut wanted = [BEFORE; HELD_BYTES];
         let mut ours = Lent::of(&wanted);
         let number = C::held_at(store, at, ours.lend_array());
         let wanted_number = S::held_at(store, at, &mut wanted);
@@ -209,8 +279,8 @@ impl<C: AdvanceCalls, S: AdvanceCalls> Both<C, S> {
         (wanted_number, wanted)
     }
 
-    pub fn held_start(&mut self, log: u64) -> Held {
-        let mut wanted = [BEFORE; 688];
+    fn held_start(&mut self, log: u64) -> Held {
+        let mut wanted = [BEFORE; HELD_BYTES];
         let mut ours = Lent::of(&wanted);
         let number = C::held_start(log, ours.lend_array());
         let wanted_number = S::held_start(log, &mut wanted);
@@ -220,8 +290,7 @@ impl<C: AdvanceCalls, S: AdvanceCalls> Both<C, S> {
         wanted
     }
 
-    /// Builds into an output of `room` bytes.
-    pub fn build_advancement(&mut self, store: &[u8], i: u64, n: u64, room: usize) -> Answer {
+    fn build_advancement(&mut self, store: &[u8], i: u64, n: u64, room: usize) -> Answer {
         let mut wanted = vec![BEFORE; room];
         let mut ours = Lent::of(&wanted);
         let answer = C::build_advancement(store, i, n, ours.lend());
@@ -232,8 +301,7 @@ impl<C: AdvanceCalls, S: AdvanceCalls> Both<C, S> {
         wanted_answer
     }
 
-    /// Advances; returns the answer and the state handed back.
-    pub fn check_advancement(
+    fn check_advancement(
         &mut self,
         held: &Held,
         n: u64,
@@ -251,13 +319,21 @@ impl<C: AdvanceCalls, S: AdvanceCalls> Both<C, S> {
     }
 }
 
-impl<C: SavedCalls> Both<C> {
+/// Held states in files, on both sides.
+pub trait BothSaved: Counted {
     /// Writes into an output of `room` bytes; returns the answer and the output.
-    pub fn held_write(&mut self, held: &Held, room: usize) -> (Answer, Vec<u8>) {
+    fn held_write(&mut self, held: &Held, room: usize) -> (Answer, Vec<u8>);
+
+    /// Reads a file; returns the number and what the lent state holds then.
+    fn held_read(&mut self, file: &[u8]) -> (u64, Held);
+}
+
+impl<C: SavedCalls, S: SavedCalls> BothSaved for Both<C, S> {
+    fn held_write(&mut self, held: &Held, room: usize) -> (Answer, Vec<u8>) {
         let mut wanted = vec![BEFORE; room];
         let mut ours = Lent::of(&wanted);
         let answer = C::held_write(held, ours.lend());
-        let wanted_answer = Second::held_write(held, &mut wanted);
+        let wanted_answer = S::held_write(held, &mut wanted);
         let call = || {
             let count = u64::from_be_bytes(held[8..16].try_into().expect("8 bytes"));
             format!("file of a held state at {}, room of {}", count, room)
@@ -267,12 +343,11 @@ impl<C: SavedCalls> Both<C> {
         (wanted_answer, wanted)
     }
 
-    /// Reads a file; returns the number and what the lent state holds then.
-    pub fn held_read(&mut self, file: &[u8]) -> (u64, Held) {
-        let mut wanted = [BEFORE; 688];
+    fn held_read(&mut self, file: &[u8]) -> (u64, Held) {
+        let mut wanted = [BEFORE; HELD_BYTES];
         let mut ours = Lent::of(&wanted);
         let number = C::held_read(file, ours.lend_array());
-        let wanted_number = Second::held_read(file, &mut wanted);
+        let wanted_number = S::held_read(file, &mut wanted);
         let call = || {
             let head = &file[..file.len().min(21)];
             format!("held state of a file of {} bytes with the head {:02x?}", file.len(), head)
@@ -373,9 +448,23 @@ impl<C: TrieCalls> Both<C> {
     }
 }
 
-/// The calls of the vans' logs on both sides, whatever these are. The group's functions take this,
-/// so that they are compiled once and not for each faulty copy.
-pub trait BothSealed {
+/// Held states, and their files, on both sides.
+pub trait BothKept: BothAdvance + BothSaved {}
+
+impl<C: AdvanceCalls + SavedCalls, S: AdvanceCalls + SavedCalls> BothKept for Both<C, S> {}
+
+/// All that has to do with the limit, on both sides.
+pub trait BothEnds: BothStore + BothMember + BothKept {}
+
+impl<C, S> BothEnds for Both<C, S>
+where
+    C: StoreCalls + MemberCalls + AdvanceCalls + SavedCalls,
+    S: StoreCalls + MemberCalls + AdvanceCalls + SavedCalls,
+{
+}
+
+/// The vans' logs, on both sides.
+pub trait BothSealed: Counted {
     fn mac(&mut self, key: &[u8], message: &[u8]) -> (u64, Digest);
 
     /// Adds into an output of `room` bytes; returns the answer and the output. Key and chain are
@@ -390,9 +479,6 @@ pub trait BothSealed {
     ) -> (Answer, Vec<u8>);
 
     fn seal_check(&mut self, first_key: &Digest, log: &[u8]) -> Answer;
-
-    /// Counts an answer that was also told beforehand.
-    fn count_told(&mut self);
 }
 
 impl<C: SealCalls, S: SealCalls> BothSealed for Both<C, S> {
@@ -436,10 +522,6 @@ impl<C: SealCalls, S: SealCalls> BothSealed for Both<C, S> {
         let wanted = S::seal_check(first_key, log);
         self.agree(answer, wanted, || format!("check of a van's log of {} bytes", log.len()));
         wanted
-    }
-
-    fn count_told(&mut self) {
-        self.told += 1;
     }
 }
 

@@ -2,10 +2,14 @@
 //!
 //! Among the faults are the slips that document 01 has seen elsewhere.
 
+mod ends;
 mod sealed;
 
-use lotlog::{Answer, Digest, Held, Side};
+use std::sync::atomic::{AtomicUsize, Ordering};
+
+use lotlog::{Answer, Digest, Held, Side, HELD_BYTES};
 use second::hash::{Hash, Sha256};
+use second::held::ROWS;
 use second::proof::{components, link};
 use second::saved::{file_length, FILE_LEAST, FILE_MOST};
 use second::store::{HEADER, OPEN, RECORD, STATE};
@@ -14,10 +18,22 @@ use second::{message, path, ENTRY_MOST, LIMIT};
 
 use crate::calls::{AdvanceCalls, HashCalls, MemberCalls, SavedCalls};
 use crate::calls::{SealCalls, StoreCalls, TrieCalls};
-use crate::second_calls::Second;
+use crate::second_calls::{held_bytes, held_of_bytes, Second};
 
-/// The second program with one of the faults below.
-pub enum Faulty<const FAULT: usize> {}
+/// The second program with one of the faults below, which is set. It is no parameter of the type, or
+/// there would be as many copies to compile as there are faults.
+pub enum Faulty {}
+
+static FAULT: AtomicUsize = AtomicUsize::new(NO_FAULT);
+
+/// Gives the copy this fault, in place of the one that it had.
+pub fn set(fault: usize) {
+    FAULT.store(fault, Ordering::Relaxed);
+}
+
+fn fault() -> usize {
+    FAULT.load(Ordering::Relaxed)
+}
 
 /// With no fault, it must not be noticed.
 pub const NO_FAULT: usize = usize::MAX;
@@ -180,11 +196,61 @@ pub const LAST_SEAL_ALONE: usize = 154;
 pub const SHAPE_BEFORE_THE_SEALS: usize = 155;
 pub const OFFICE_KEEPS_THE_KEY: usize = 156;
 pub const COUNTS_WITHOUT_THE_CLOSE: usize = 157;
+pub const NO_FAULT_AT_THE_ENDS: usize = 158;
+pub const KEEPS_THE_OLD_LIMIT: usize = 159;
+pub const LIMIT_ONE_LESS: usize = 160;
+pub const LIMIT_ONE_MORE: usize = 161;
+pub const OLD_LIMIT_OF_STATES: usize = 162;
+pub const OLD_LIMIT_OF_FILES: usize = 163;
+pub const STATE_ONE_MORE: usize = 164;
+pub const FILE_ONE_MORE: usize = 165;
+pub const SIGNED_LENGTHS: usize = 166;
+pub const POSITION_OF_32_BITS: usize = 167;
+pub const LENGTH_OF_32_BITS: usize = 168;
+pub const STATE_COUNT_OF_32_BITS: usize = 169;
+pub const READS_AT_32_BITS: usize = 170;
+pub const BUILDS_IN_32_BITS: usize = 171;
+pub const DISPUTES_IN_32_BITS: usize = 172;
+pub const DIFFERING_IN_32_BITS: usize = 173;
+pub const HOPS_UP_TO_LEVEL_19: usize = 174;
+pub const HOPS_UP_TO_LEVEL_29: usize = 175;
+pub const HOPS_UP_TO_LEVEL_30: usize = 176;
+pub const HOP_SUM_OF_32_BITS: usize = 177;
+pub const LINKS_UP_TO_LEVEL_19: usize = 178;
+pub const LINKS_UP_TO_LEVEL_30: usize = 179;
+pub const MESSAGE_OF_681: usize = 180;
+pub const MESSAGE_OF_1_033: usize = 181;
+pub const ELEMENT_OF_24_BITS: usize = 182;
+pub const PROOF_OF_14_048: usize = 183;
+pub const TELLS_38_HOPS: usize = 184;
+pub const SIGNED_ELEMENT: usize = 185;
+pub const KEEPS_TWENTY_ROWS: usize = 186;
+pub const KEEPS_31_ROWS: usize = 187;
+pub const TWENTY_ROWS_JUDGED: usize = 188;
+pub const ROW_20_NOT_JUDGED: usize = 189;
+pub const ROW_31_NOT_JUDGED: usize = 190;
+pub const TWENTY_ROWS_COMPARED: usize = 191;
+pub const ROW_30_NOT_COMPARED: usize = 192;
+pub const CARRIES_TO_ROW_20: usize = 193;
+pub const FILE_OF_TWENTY_ROWS: usize = 194;
+pub const KEEPS_THE_OLD_CAPACITY: usize = 195;
 
-impl<const FAULT: usize> HashCalls for Faulty<FAULT> {
+impl Faulty {
+    /// Whether the fault is one of the limit, the levels or the rows.
+    fn at_the_ends() -> bool {
+        (NO_FAULT_AT_THE_ENDS..=KEEPS_THE_OLD_CAPACITY).contains(&fault())
+    }
+
+    /// The copy that has such a fault.
+    fn ends() -> ends::Copy {
+        ends::Copy { fault: fault() }
+    }
+}
+
+impl HashCalls for Faulty {
     fn hash(message: &[u8], digest: &mut Digest) -> u64 {
         let number = Second::hash(message, digest);
-        match FAULT {
+        match fault() {
             PADDING_AT_55_BYTES if message.len() % 64 == 55 => digest[31] ^= 1,
             HASHES_TOO_MUCH if number == 3 => return Second::hash(&message[..65_536], digest),
             MISSES_A_LAST_BIT if is_a_last_bit(message) => return Second::hash(&[0; 128], digest),
@@ -208,10 +274,10 @@ fn read_as(store: &[u8], state: impl Fn(u8) -> u8) -> Vec<u8> {
     store
 }
 
-impl<const FAULT: usize> StoreCalls for Faulty<FAULT> {
+impl StoreCalls for Faulty {
     fn start(store: &mut [u8], log: u64) -> u64 {
         let number = Second::start(store, log);
-        match FAULT {
+        match fault() {
             STARTS_PAST_CAPACITY if number == 0 && store.len() > 16 => store[store.len() - 1] = 0,
             STARTS_WITH_ZEROS if number == 0 => store.copy_from_slice(&read_as(store, |_| 0)),
             _ => (),
@@ -220,8 +286,8 @@ impl<const FAULT: usize> StoreCalls for Faulty<FAULT> {
     }
 
     fn count(store: &[u8]) -> Answer {
-        let answer = Second::count(store);
-        match FAULT {
+        let answer = Second::count(Self::ends().read_of(store));
+        match fault() {
             TAKES_ANY_STATE_BYTE if store.starts_with(b"LOT") => Answer { number: 0, ..answer },
             OPEN_IS_ZERO => Second::count(&read_as(store, |state| match state {
                 0 => OPEN,
@@ -237,22 +303,23 @@ impl<const FAULT: usize> StoreCalls for Faulty<FAULT> {
 
     fn append(store: &mut [u8], entry: &[u8], stop: u64) -> Answer {
         let before = Second::count(store);
-        let stop = match FAULT {
+        let stop = match fault() {
             CLOSES_TOO_EARLY if stop == 64 => 65,
             STOP_WRAPS if stop == u64::MAX => 0,
             SKIPS_EMPTY_ENTRIES if entry.is_empty() => 0,
             _ => stop,
         };
         let answer = Second::append(store, entry, stop);
-        match FAULT {
+        match fault() {
             COUNT_BESIDE_A_REFUSAL => Answer { beside: before.beside, ..answer },
             _ => answer,
         }
     }
 
     fn digest_at(store: &[u8], at: u64, digest: &mut Digest) -> u64 {
+        let [at] = Self::ends().numbers([at], &[READS_AT_32_BITS]);
         let number = Second::digest_at(store, at, digest);
-        if FAULT == NO_DIGEST_AT_0 && number == 0 && at == 0 {
+        if fault() == NO_DIGEST_AT_0 && number == 0 && at == 0 {
             *digest = [0; 32];
         }
         number
@@ -260,7 +327,7 @@ impl<const FAULT: usize> StoreCalls for Faulty<FAULT> {
 
     fn audit(store: &[u8]) -> Answer {
         let answer = Second::audit(store);
-        match FAULT {
+        match fault() {
             AUDIT_NAMES_THE_LAST if answer.number == 12 => {
                 Answer { beside: Second::count(store).beside, ..answer }
             }
@@ -322,12 +389,12 @@ impl<'a> Walk<'a> {
     }
 }
 
-impl<const FAULT: usize> Faulty<FAULT> {
+impl Faulty {
     /// The faults in where a proof broke.
     fn misplaced<'a>(answer: Answer, n: u64, walk: impl Fn() -> Walk<'a>) -> Answer {
         let [hops, element, level] = answer.beside;
         let hop = hops as usize;
-        let [element, level] = match (FAULT, answer.number) {
+        let [element, level] = match (fault(), answer.number) {
             (NAMES_THE_ELEMENT_LEFT, 9 | 10) => [walk().elements[hop], level],
             (LEVEL_ONE_MORE, 10) | (NAMES_THE_LINK_OF_A_ROW, 9) => [element, level + 1],
             (LEVEL_OF_THE_ELEMENT_LEFT, 10) => {
@@ -345,18 +412,22 @@ impl<const FAULT: usize> Faulty<FAULT> {
     }
 }
 
-impl<const FAULT: usize> MemberCalls for Faulty<FAULT> {
+impl MemberCalls for Faulty {
     fn build_membership(store: &[u8], i: u64, n: u64, out: &mut [u8]) -> Answer {
+        let [i, n] = Self::ends().numbers([i, n], &[BUILDS_IN_32_BITS]);
         let answer = Second::build_membership(store, i, n, out);
-        if FAULT == CLEARS_PAST_THE_PROOF && answer.number == 0 {
+        if fault() == CLEARS_PAST_THE_PROOF && answer.number == 0 {
             out[answer.beside[0] as usize..].fill(0);
         }
         answer
     }
 
     fn check_membership(entry: &[u8], i: u64, n: u64, digest: &Digest, proof: &[u8]) -> Answer {
+        if Self::at_the_ends() {
+            return Self::ends().check_membership(entry, i, n, digest, proof);
+        }
         let answer = Second::check_membership(entry, i, n, digest, proof);
-        match (FAULT, answer.number) {
+        match (fault(), answer.number) {
             (IGNORES_A_TAIL, 7) if !proof.is_empty() => {
                 let shorter = &proof[..proof.len() - 1];
                 Self::check_membership(entry, i, n, digest, shorter)
@@ -368,8 +439,9 @@ impl<const FAULT: usize> MemberCalls for Faulty<FAULT> {
     }
 
     fn dispute(sides: [Side; 2], i: u64, n: u64, digest: &Digest, out: [&mut [u8]; 2]) -> Answer {
+        let [i, n] = Self::ends().numbers([i, n], &[DISPUTES_IN_32_BITS]);
         let answer = Second::dispute(sides, i, n, digest, out);
-        match FAULT {
+        match fault() {
             NAMES_THE_SECOND_PROOF if answer.number == 13 => Answer { beside: [2, 0, 0], ..answer },
             PLACE_WITH_13 if answer.number == 13 => {
                 let which = answer.beside[0];
@@ -383,8 +455,9 @@ impl<const FAULT: usize> MemberCalls for Faulty<FAULT> {
     }
 
     fn differing(first: &[u8], second: &[u8], i: u64, n: u64) -> Answer {
+        let [i, n] = Self::ends().numbers([i, n], &[DIFFERING_IN_32_BITS]);
         let answer = Second::differing(first, second, i, n);
-        match FAULT {
+        match fault() {
             DIFFERING_NEAREST_I if answer.beside[1] > 0 => {
                 Answer { beside: [0, answer.beside[1], 0], ..answer }
             }
@@ -393,10 +466,11 @@ impl<const FAULT: usize> MemberCalls for Faulty<FAULT> {
     }
 }
 
-impl<const FAULT: usize> AdvanceCalls for Faulty<FAULT> {
+impl AdvanceCalls for Faulty {
     fn held_at(store: &[u8], at: u64, held: &mut Held) -> u64 {
+        let [at] = Self::ends().numbers([at], &[READS_AT_32_BITS]);
         let number = Second::held_at(store, at, held);
-        if FAULT == FORGETS_THE_TOP_ROW && number == 0 && at > 0 {
+        if fault() == FORGETS_THE_TOP_ROW && number == 0 && at > 0 {
             let top = 63 - at.leading_zeros() as usize;
             held[48 + 32 * top..][..32].fill(0);
         }
@@ -408,13 +482,17 @@ impl<const FAULT: usize> AdvanceCalls for Faulty<FAULT> {
     }
 
     fn build_advancement(store: &[u8], i: u64, n: u64, out: &mut [u8]) -> Answer {
-        let first = if FAULT == ADVANCES_ONLY_FROM_1 && n > 0 { i.max(1) } else { i };
+        let [i, n] = Self::ends().numbers([i, n], &[BUILDS_IN_32_BITS]);
+        let first = if fault() == ADVANCES_ONLY_FROM_1 && n > 0 { i.max(1) } else { i };
         Second::build_advancement(store, first, n, out)
     }
 
     fn check_advancement(held: &mut Held, n: u64, digest: &Digest, proof: &[u8]) -> Answer {
+        if Self::at_the_ends() {
+            return Self::ends().check_advancement(held, n, digest, proof);
+        }
         let answer = Second::check_advancement(held, n, digest, proof);
-        match (FAULT, answer.number) {
+        match (fault(), answer.number) {
             (NEVER_CHECKS_ROWS, 9) => return Answer { number: 0, ..answer },
             (KEEPS_A_REFUSED_DIGEST, 11) => held[16..48].copy_from_slice(digest),
             (NAMES_THE_HIGHEST_ROW, 9) if answer.beside[0] == 0 => {
@@ -468,7 +546,7 @@ fn with_bytes(file: &[u8], at: usize, bytes: &[u8]) -> Vec<u8> {
 
 /// The number that a file is read with.
 fn number_of(file: &[u8]) -> u64 {
-    Second::held_read(file, &mut [0; 688])
+    Second::held_read(file, &mut [0; HELD_BYTES])
 }
 
 /// The length that the count of a file asks for. The file has its 53 bytes.
@@ -476,23 +554,23 @@ fn length_asked(file: &[u8]) -> usize {
     file_length(u64::from_be_bytes(file[13..21].try_into().expect("8 bytes")))
 }
 
-impl<const FAULT: usize> Faulty<FAULT> {
+impl Faulty {
     /// The file of a held state, in order or not, with the faults in its form.
     fn file(held: &Held) -> Vec<u8> {
         let in_use = |row: usize| held_count(held) >> row & 1 == 1;
-        let has = |row: usize, bytes: &[u8]| match FAULT {
+        let has = |row: usize, bytes: &[u8]| match fault() {
             ALL_ROWS_WRITTEN => true,
             ROW_BY_ITS_CONTENTS => bytes != [0; 32],
-            LAST_ROW_LEFT_OUT => in_use(row) && row < 19,
+            LAST_ROW_LEFT_OUT => in_use(row) && row < ROWS - 1,
             _ => in_use(row),
         };
         let rows = held[48..].chunks(32).enumerate().filter(|(row, bytes)| has(*row, bytes));
         let mut rows: Vec<&[u8]> = rows.map(|(_, bytes)| bytes).collect();
-        if FAULT == ROWS_HIGHEST_FIRST {
+        if fault() == ROWS_HIGHEST_FIRST {
             rows.reverse();
         }
         let mut file = [b"HLD\x00\x01", &held[..48], &rows.concat()].concat();
-        if FAULT == COUNT_LITTLE_ENDIAN {
+        if fault() == COUNT_LITTLE_ENDIAN {
             file[13..21].reverse();
         }
         file
@@ -500,10 +578,12 @@ impl<const FAULT: usize> Faulty<FAULT> {
 
     /// Whether a state that is not in order is written all the same.
     fn takes_state(held: &Held) -> bool {
-        match FAULT {
+        match fault() {
             WRITES_ANY_STATE => true,
             WRITES_OVER_THE_LIMIT => held_count(held) > LIMIT,
-            WRITES_ANY_LAST_ROW => would_be_in_order(held, |other| other[656..].fill(0)),
+            WRITES_ANY_LAST_ROW => {
+                would_be_in_order(held, |other| other[HELD_BYTES - 32..].fill(0))
+            }
             WRITES_ANY_START => would_be_in_order(held, set_start),
             _ => false,
         }
@@ -511,7 +591,7 @@ impl<const FAULT: usize> Faulty<FAULT> {
 
     /// The file that a fault takes a file for, which has this number.
     fn taken_for(file: &[u8], number: u64) -> Option<Vec<u8>> {
-        Some(match (FAULT, number) {
+        Some(match (fault(), number) {
             (ROWS_HIGHEST_FIRST, 0) => {
                 let mut rows = parts(&file[FILE_LEAST..]);
                 rows.reverse();
@@ -541,7 +621,7 @@ impl<const FAULT: usize> Faulty<FAULT> {
         let marked = with_bytes(file, 0, b"HLD");
         let versioned = with_bytes(file, 3, &[0, 1]);
         let row_of_zeros = || parts(&file[FILE_LEAST..]).contains(&[0; 32]);
-        match (FAULT, number) {
+        match (fault(), number) {
             (NEEDS_54_BYTES, 0) if file.len() == FILE_LEAST => 18,
             (MARK_BEFORE_53_BYTES, 18) if !file.starts_with(b"HLD") => 19,
             (VERSION_BEFORE_THE_MARK, 19) if number_of(&marked) == 20 => 20,
@@ -557,11 +637,14 @@ impl<const FAULT: usize> Faulty<FAULT> {
     }
 }
 
-impl<const FAULT: usize> SavedCalls for Faulty<FAULT> {
+impl SavedCalls for Faulty {
     fn held_write(held: &Held, out: &mut [u8]) -> Answer {
+        if Self::at_the_ends() {
+            return Self::ends().held_write(held, out);
+        }
         let answer = Second::held_write(held, out);
         let need = file_length(held_count(held));
-        match (FAULT, answer.number) {
+        match (fault(), answer.number) {
             (ROWS_HIGHEST_FIRST | ALL_ROWS_WRITTEN | ROW_BY_ITS_CONTENTS, 0)
             | (LAST_ROW_LEFT_OUT | COUNT_LITTLE_ENDIAN, 0) => put(&Self::file(held), out),
             (CLEARS_BEHIND_THE_FILE, 0) => {
@@ -580,22 +663,25 @@ impl<const FAULT: usize> SavedCalls for Faulty<FAULT> {
     }
 
     fn held_read(file: &[u8], held: &mut Held) -> u64 {
+        if Self::at_the_ends() {
+            return Self::ends().held_read(file, held);
+        }
         let mut state = *held;
         let number = Second::held_read(file, &mut state);
         if let Some(other) = Self::taken_for(file, number) {
             return Second::held_read(&other, held);
         }
-        match (FAULT, number) {
+        match (fault(), number) {
             (READS_ANY_START, 2) => {
-                state = [0; 688];
+                state = [0; HELD_BYTES];
                 state[..48].copy_from_slice(&file[5..FILE_LEAST]);
                 *held = state;
                 return 0;
             }
-            (REFUSED_FILE_CLEARS, 1..) => *held = [0; 688],
+            (REFUSED_FILE_CLEARS, 1..) => *held = [0; HELD_BYTES],
             (KEEPS_FREE_ROWS, 0) => {
                 let count = held_count(&state);
-                for row in (0..20).filter(|row| count >> row & 1 == 0) {
+                for row in (0..ROWS).filter(|row| count >> row & 1 == 0) {
                     let place = 48 + 32 * row..80 + 32 * row;
                     state[place.clone()].copy_from_slice(&held[place]);
                 }
@@ -623,10 +709,10 @@ fn checked_along(way: impl Fn(Digest) -> Digest, key: &[u8], root: &Digest, proo
     }
 }
 
-impl<const FAULT: usize> Faulty<FAULT> {
+impl Faulty {
     /// The faults in proving either kind.
     fn proved(answer: Answer, handles: &[u8], out: &mut [u8]) -> Answer {
-        match (FAULT, answer.number) {
+        match (fault(), answer.number) {
             (ROOM_BEFORE_THE_KIND, 15) if out.is_empty() => return Answer { number: 6, ..answer },
             (LIST_BEFORE_THE_KEY, 3) if handles.len() % 32 != 0 => {
                 return Answer { number: 14, ..answer }
@@ -644,9 +730,9 @@ impl<const FAULT: usize> Faulty<FAULT> {
     }
 }
 
-impl<const FAULT: usize> TrieCalls for Faulty<FAULT> {
+impl TrieCalls for Faulty {
     fn handle(key: &[u8], handle: &mut Digest) -> u64 {
-        if FAULT == HASHES_A_LONG_KEY && key.len() == ENTRY_MOST + 1 {
+        if fault() == HASHES_A_LONG_KEY && key.len() == ENTRY_MOST + 1 {
             *handle = Sha256::of(&message::key(key));
             return 0;
         }
@@ -655,7 +741,7 @@ impl<const FAULT: usize> TrieCalls for Faulty<FAULT> {
 
     fn trie_root(handles: &[u8], root: &mut Digest) -> u64 {
         let mut list = parts(handles);
-        match FAULT {
+        match fault() {
             TAKES_A_REPEATED_HANDLE if handles.len() % 32 == 0 => list.dedup(),
             SORTS_THE_LIST if handles.len() % 32 == 0 => list.sort_unstable(),
             TAKES_1001_HANDLES if list.len() == 1001 => list.truncate(1000),
@@ -672,7 +758,7 @@ impl<const FAULT: usize> TrieCalls for Faulty<FAULT> {
     fn prove_absence(handles: &[u8], key: &[u8], out: &mut [u8]) -> Answer {
         let answer = Second::prove_absence(handles, key, out);
         let end = answer.beside[0] as usize;
-        match (FAULT, answer.number) {
+        match (fault(), answer.number) {
             (BUILDS_A_FALSE_ABSENCE, 15) => Second::prove_presence(handles, key, out),
             (ABSENCE_ONE_TOO_LONG, 0) if out.len() >= end + 32 => {
                 out[end..end + 32].fill(0);
@@ -684,7 +770,7 @@ impl<const FAULT: usize> TrieCalls for Faulty<FAULT> {
 
     fn check_presence(key: &[u8], root: &Digest, proof: &[u8]) -> u64 {
         let number = Second::check_presence(key, root, proof);
-        match (FAULT, number) {
+        match (fault(), number) {
             (LAST_BIT_FIRST, 0 | 17) => {
                 checked_along(|handle| handle.map(u8::reverse_bits), key, root, proof)
             }
@@ -700,7 +786,7 @@ impl<const FAULT: usize> TrieCalls for Faulty<FAULT> {
 
     fn check_absence(key: &[u8], root: &Digest, proof: &[u8]) -> u64 {
         let number = Second::check_absence(key, root, proof);
-        match FAULT {
+        match fault() {
             TAKES_ANY_ROOT if number == 17 => 0,
             ABSENCE_NEEDS_A_SIBLING if number != 3 && proof.is_empty() => 16,
             PART_OF_A_SIBLING_IGNORED => Second::check_absence(key, root, &parts(proof).concat()),
@@ -723,7 +809,7 @@ impl<const FAULT: usize> TrieCalls for Faulty<FAULT> {
         out: [&mut [u8]; 2],
     ) -> Answer {
         let answer = Second::trie_clash(key, root, presence, absence, out);
-        match (FAULT, answer.number) {
+        match (fault(), answer.number) {
             (NAMES_THE_ABSENCE, 13) => Answer { beside: [2, 0, 0], ..answer },
             (PROOFS_BEFORE_THE_BUFFERS, 6) => {
                 let (mut first, mut second) = ([0; 65], [0; 65]);

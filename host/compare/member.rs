@@ -1,6 +1,6 @@
 //! The group `member`: building and checking membership proofs, disputes, and the differing part.
 
-use lotlog::{Answer, Digest, Side};
+use lotlog::{Answer, Digest, Side, PROOF_MOST};
 use second::dispute::BUFFER_LEAST;
 use second::hash::Sha256;
 use second::path::{component_length, membership, proof_length};
@@ -8,13 +8,11 @@ use second::proof::{components, proof_of};
 use second::store::Log;
 use second::{ENTRY_MOST, LIMIT};
 
-use crate::both::Both;
-use crate::calls::MemberCalls;
+use crate::both::BothMember;
 use crate::damage::{bit_turned, parts_swapped, spoiled};
-use crate::logs::{entry, first_records, read, sound};
+use crate::logs::{entry, first_records, read, sound, OLD_LIMIT, REAL};
 use crate::places;
 use crate::random::Random;
-use crate::second_calls::Second;
 use crate::Scale;
 
 const SEED: u64 = 2;
@@ -25,18 +23,18 @@ const SMALL: u64 = 40;
 /// Pairs with short proofs, of which every bit is turned.
 const SHORT: [(u64, u64); 5] = [(1, 1), (8, 8), (7, 8), (1, 7), (5, 12)];
 
-pub fn run<C: MemberCalls>(both: &mut Both<C>, scale: Scale) {
+pub fn run(both: &mut dyn BothMember, scale: Scale) {
     let mut random = Random::new(SEED);
     small_pairs(both, scale.pick(SMALL, 12), &mut random);
     every_bit(both);
-    let elements = scale.pick(LIMIT, 3_000);
+    let elements = scale.pick(REAL, 3_000);
     let store = sound(elements, 0);
     random_pairs(both, &store, scale.pick(10_000, 100), &mut random);
     build_anywhere(both, &store, scale.pick(10_000, 100), &mut random);
-    places::run::<Claim, C, Second>(both, &store, scale);
+    places::run::<Claim, _>(both, &store, scale);
     places::disputes(both, scale);
     if scale == Scale::Full {
-        the_longest(both, &store);
+        the_old_ends(both, &store);
     }
 }
 
@@ -62,12 +60,12 @@ impl Claim {
         membership(self.i, self.n).expect("a path").len() as u64 - 1
     }
 
-    pub fn check<C: MemberCalls, S: MemberCalls>(&self, both: &mut Both<C, S>) -> Answer {
+    pub fn check<B: BothMember + ?Sized>(&self, both: &mut B) -> Answer {
         both.check_membership(&self.entry, self.i, self.n, &self.digest, &self.proof)
     }
 
     /// The claim with another proof.
-    fn with_proof(&self, proof: Vec<u8>) -> Claim {
+    pub fn with_proof(&self, proof: Vec<u8>) -> Claim {
         Claim { proof, ..self.clone() }
     }
 
@@ -75,11 +73,11 @@ impl Claim {
         Claim { entry, ..self.clone() }
     }
 
-    fn with_digest(&self, digest: &[u8]) -> Claim {
+    pub fn with_digest(&self, digest: &[u8]) -> Claim {
         Claim { digest: digest.try_into().expect("32 bytes"), ..self.clone() }
     }
 
-    fn with_positions(&self, i: u64, n: u64) -> Claim {
+    pub fn with_positions(&self, i: u64, n: u64) -> Claim {
         Claim { i, n, ..self.clone() }
     }
 
@@ -107,7 +105,7 @@ impl Claim {
     }
 
     /// The honest claim spoiled in every way that document 01 tells apart.
-    fn damaged(&self, random: &mut Random) -> Vec<Claim> {
+    pub fn damaged(&self, random: &mut Random) -> Vec<Claim> {
         let length = self.proof.len();
         let last = component_length(self.n);
         let longer = |tail: &[u8]| self.with_proof([&self.proof, tail].concat());
@@ -140,13 +138,15 @@ impl Claim {
             self.with_positions(u64::MAX, u64::MAX),
             self.with_positions(u64::MAX - self.i, self.n),
             self.with_positions(self.i + (1 << 32), self.n + (1 << 32)),
+            self.with_positions(self.i, self.n + (1 << 32)),
+            self.with_positions(self.i + (1 << 32), self.n),
         ]
     }
 }
 
 /// An honest claim is accepted with the path's hops; each damaged one gets the same answer from
 /// both.
-fn check_claim<C: MemberCalls>(both: &mut Both<C>, claim: &Claim, random: &mut Random) {
+fn check_claim(both: &mut dyn BothMember, claim: &Claim, random: &mut Random) {
     let answer = claim.check(both);
     assert_eq!(answer, Answer { number: 0, beside: [claim.hops(), 0, 0] });
     for damaged in claim.damaged(random) {
@@ -156,7 +156,7 @@ fn check_claim<C: MemberCalls>(both: &mut Both<C>, claim: &Claim, random: &mut R
 
 /// Settles disputes of the claim with itself and with a spoiled copy, and asks for the differing
 /// part.
-fn dispute_claim<C: MemberCalls>(both: &mut Both<C>, claim: &Claim, random: &mut Random) {
+fn dispute_claim(both: &mut dyn BothMember, claim: &Claim, random: &mut Random) {
     let other_proof = spoiled(&claim.proof, random);
     let other_entry = spoiled(&claim.entry, random);
     let good = Side { entry: &claim.entry, proof: &claim.proof };
@@ -177,7 +177,7 @@ fn dispute_claim<C: MemberCalls>(both: &mut Both<C>, claim: &Claim, random: &mut
 }
 
 /// Every (i, n) up to a small length: built, checked, damaged and disputed.
-fn small_pairs<C: MemberCalls>(both: &mut Both<C>, most: u64, random: &mut Random) {
+fn small_pairs(both: &mut dyn BothMember, most: u64, random: &mut Random) {
     let store = sound(most, 2);
     let log = read(&store);
     for n in 0..=most + 1 {
@@ -197,7 +197,7 @@ fn small_pairs<C: MemberCalls>(both: &mut Both<C>, most: u64, random: &mut Rando
 }
 
 /// Every single bit of some short proofs.
-fn every_bit<C: MemberCalls>(both: &mut Both<C>) {
+fn every_bit(both: &mut dyn BothMember) {
     let store = sound(12, 0);
     for (i, n) in SHORT {
         let claim = Claim::honest(&read(&store), i, n);
@@ -210,12 +210,7 @@ fn every_bit<C: MemberCalls>(both: &mut Both<C>) {
 }
 
 /// Random pairs, half of them evenly spread and half of any size.
-fn random_pairs<C: MemberCalls>(
-    both: &mut Both<C>,
-    store: &[u8],
-    times: usize,
-    random: &mut Random,
-) {
+fn random_pairs(both: &mut dyn BothMember, store: &[u8], times: usize, random: &mut Random) {
     let log = read(store);
     for time in 0..times {
         let n = if time % 2 == 0 {
@@ -233,12 +228,7 @@ fn random_pairs<C: MemberCalls>(
 
 /// Proofs built from the first records of a store, which are as many as the length asked for: each
 /// build counts its store, and counting all of it every time would take long.
-fn build_anywhere<C: MemberCalls>(
-    both: &mut Both<C>,
-    store: &[u8],
-    times: usize,
-    random: &mut Random,
-) {
+fn build_anywhere(both: &mut dyn BothMember, store: &[u8], times: usize, random: &mut Random) {
     let most = read(store).count;
     for _ in 0..times {
         let n = random.of_any_size(most);
@@ -253,13 +243,17 @@ fn build_anywhere<C: MemberCalls>(
     }
 }
 
-/// "1 to 1,048,575: 38 hops, 39 components, 14,048 bytes, the longest. Length 1,048,576: 4."
-fn the_longest<C: MemberCalls>(both: &mut Both<C>, store: &[u8]) {
-    assert_eq!(both.build_membership(store, 1, LIMIT, 14_048).beside[0], 14_048);
-    assert_eq!(both.build_membership(store, 1, LIMIT, 14_047).number, 6);
-    assert_eq!(both.build_membership(store, 1, LIMIT + 1, 20_000).number, 4);
-    let claim = Claim::honest(&read(store), 1, LIMIT);
-    assert_eq!((claim.components().len(), claim.proof.len()), (39, 14_048));
-    assert_eq!(claim.check(both), Answer { number: 0, beside: [38, 0, 0] });
-    assert_eq!(claim.with_positions(1, LIMIT + 1).check(both).number, 4);
+/// "1 to 1,048,575: 38 hops, 39 components, 14,048 bytes", which is no longer the longest; and the
+/// lengths past that one, up to the store's.
+fn the_old_ends(both: &mut dyn BothMember, store: &[u8]) {
+    for (n, hops, bytes) in [(OLD_LIMIT, 38, 14_048), (OLD_LIMIT + 1, 20, 8_064)] {
+        assert_eq!(both.build_membership(store, 1, n, bytes).beside[0], bytes as u64);
+        assert_eq!(both.build_membership(store, 1, n, bytes - 1).number, 6);
+        let claim = Claim::honest(&read(store), 1, n);
+        assert_eq!((claim.components().len() as u64, claim.proof.len()), (hops + 1, bytes));
+        assert_eq!(claim.check(both), Answer { number: 0, beside: [hops, 0, 0] });
+    }
+    for n in [REAL + 1, LIMIT, LIMIT + 1, LIMIT + 2, LIMIT + REAL] {
+        assert_eq!(both.build_membership(store, 1, n, PROOF_MOST).number, 4);
+    }
 }

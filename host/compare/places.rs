@@ -19,17 +19,14 @@ use std::ops::Range;
 
 use lotlog::{Answer, Side};
 use second::dispute::BUFFER_LEAST;
-use second::hash::Sha256;
-use second::held::{held_of, ROWS};
+use second::held::ROWS;
 use second::store::Log;
 
 use crate::advance::{Step, BASIS, DIGEST};
-use crate::both::Both;
-use crate::calls::{AdvanceCalls, MemberCalls};
-use crate::logs::{read, sound};
+use crate::both::{BothAdvance, BothMember, Counted};
+use crate::logs::{read, sound, Source};
 use crate::member::Claim;
 use crate::random::Random;
-use crate::second_calls::held_bytes;
 use crate::Scale;
 
 const SEED: u64 = 6;
@@ -76,7 +73,12 @@ impl Way {
         Way { elements, advancing }
     }
 
-    fn hops(&self) -> usize {
+    /// The elements, the first one and the last one included.
+    pub fn elements(&self) -> &[u64] {
+        &self.elements
+    }
+
+    pub fn hops(&self) -> usize {
         self.elements.len() - 1
     }
 
@@ -107,7 +109,7 @@ impl Way {
     }
 
     /// All parts that are read; of the rows those in use.
-    fn parts(&self) -> Vec<Part> {
+    pub fn parts(&self) -> Vec<Part> {
         let mut parts = vec![Part::Claimed];
         if self.advancing {
             parts.push(Part::Held);
@@ -123,6 +125,18 @@ impl Way {
         [Part::D(at)].into_iter().chain(links).collect()
     }
 
+    /// Where the component at a place of the path lies in the proof.
+    pub fn place(&self, at: usize) -> Range<usize> {
+        let bytes = |at| 32 * (self.top(at) as usize + 2);
+        let begin = (self.components().start..at).map(bytes).sum();
+        begin..begin + bytes(at)
+    }
+
+    /// The length of the proof.
+    pub fn bytes(&self) -> usize {
+        self.components().map(|at| self.place(at).len()).sum()
+    }
+
     /// The bytes of a d or of a link in the proof.
     fn in_proof<'a>(&self, proof: &'a mut [u8], part: Part) -> &'a mut [u8] {
         let (at, behind_d) = match part {
@@ -130,8 +144,7 @@ impl Way {
             Part::Link(at, level) => (at, 1 + level as usize),
             _ => unreachable!("a part of the proof"),
         };
-        let before = (self.components().start..at).map(|at| self.top(at) as usize + 2);
-        &mut proof[32 * (before.sum::<usize>() + behind_d)..][..32]
+        &mut proof[self.place(at)][32 * behind_d..][..32]
     }
 
     /// Another digest of an element is found by the next hop, or at the end.
@@ -173,7 +186,7 @@ impl Way {
     }
 
     /// The answer to damage in these parts.
-    fn told(&self, parts: &[Part]) -> Answer {
+    pub fn told(&self, parts: &[Part]) -> Answer {
         let accepted = [self.hops() as u64, 0, 0, 0];
         let found = parts.iter().filter_map(|part| self.found(*part)).min();
         let [hops, number, element, level] = found.unwrap_or(accepted);
@@ -182,27 +195,27 @@ impl Way {
 }
 
 /// What a checker takes: a membership claim or a step.
-pub trait Checked<C, S>: Clone {
+pub trait Checked<B: ?Sized>: Clone {
     /// The lowest number that a path may begin with.
     const FIRST: u64;
 
-    fn honest(log: &Log, i: u64, n: u64) -> Self;
+    fn honest(log: &dyn Source, i: u64, n: u64) -> Self;
     fn proof(&mut self) -> &mut Vec<u8>;
     /// The bytes of a part.
     fn part(&mut self, way: &Way, part: Part) -> &mut [u8];
     /// Checks, and looks at all that comes of it.
-    fn answer(&self, both: &mut Both<C, S>, log: &Log, way: &Way) -> Answer;
+    fn answer(&self, both: &mut B, log: &dyn Source, way: &Way) -> Answer;
 
     fn way(i: u64, n: u64) -> Way {
         Way::new(i, n, Self::FIRST == 0)
     }
 }
 
-impl<C: MemberCalls, S: MemberCalls> Checked<C, S> for Claim {
+impl<B: BothMember + ?Sized> Checked<B> for Claim {
     const FIRST: u64 = 1;
 
-    fn honest(log: &Log, i: u64, n: u64) -> Claim {
-        Claim::honest(log, i, n)
+    fn honest(log: &dyn Source, i: u64, n: u64) -> Claim {
+        log.claim(i, n)
     }
 
     fn proof(&mut self) -> &mut Vec<u8> {
@@ -216,16 +229,16 @@ impl<C: MemberCalls, S: MemberCalls> Checked<C, S> for Claim {
         }
     }
 
-    fn answer(&self, both: &mut Both<C, S>, _: &Log, _: &Way) -> Answer {
+    fn answer(&self, both: &mut B, _: &dyn Source, _: &Way) -> Answer {
         self.check(both)
     }
 }
 
-impl<C: AdvanceCalls, S: AdvanceCalls> Checked<C, S> for Step {
+impl<B: BothAdvance + ?Sized> Checked<B> for Step {
     const FIRST: u64 = 0;
 
-    fn honest(log: &Log, i: u64, n: u64) -> Step {
-        Step::honest(log, i, n)
+    fn honest(log: &dyn Source, i: u64, n: u64) -> Step {
+        log.step(i, n)
     }
 
     fn proof(&mut self) -> &mut Vec<u8> {
@@ -243,11 +256,11 @@ impl<C: AdvanceCalls, S: AdvanceCalls> Checked<C, S> for Step {
 
     /// A refusal leaves the held state. Acceptance gives the log's own state, with the rows that no
     /// hop passed as they were held.
-    fn answer(&self, both: &mut Both<C, S>, log: &Log, way: &Way) -> Answer {
+    fn answer(&self, both: &mut B, log: &dyn Source, way: &Way) -> Answer {
         let (answer, after) = self.check(both);
         let mut wanted = self.held;
         if answer.number == 0 {
-            wanted = held_bytes(&held_of::<Sha256>(log, self.n));
+            wanted = log.held(self.n);
             for row in (0..ROWS).filter(|row| way.in_use(*row) && way.passes(*row).is_none()) {
                 wanted[row_bytes(row)].copy_from_slice(&self.held[row_bytes(row)]);
             }
@@ -263,9 +276,9 @@ fn row_bytes(row: usize) -> Range<usize> {
 
 /// Holds the answer to a bit turned in each of these parts to what is told beforehand. Two parts have
 /// it in other halves: so a row and the link that it is compared with do not become alike.
-fn damage<K: Checked<C, S>, C, S>(
-    both: &mut Both<C, S>,
-    log: &Log,
+pub fn damage<K: Checked<B>, B: Counted + ?Sized>(
+    both: &mut B,
+    log: &dyn Source,
     (honest, way): (&K, &Way),
     parts: &[Part],
     random: &mut Random,
@@ -280,29 +293,26 @@ fn damage<K: Checked<C, S>, C, S>(
 }
 
 /// Holds an answer to what is told beforehand.
-fn hold<K: Checked<C, S>, C, S>(
-    both: &mut Both<C, S>,
-    log: &Log,
+pub fn hold<K: Checked<B>, B: Counted + ?Sized>(
+    both: &mut B,
+    log: &dyn Source,
     (checked, way): (&K, &Way),
     told: Answer,
     what: &str,
 ) {
     let answer = checked.answer(both, log, way);
     assert_eq!(answer, told, "damage to {} on the path {:?}", what, way.elements);
-    both.told += 1;
+    both.count_told();
 }
 
 /// An honest proof: whole, with each part damaged, with each free row not zero, and too long.
-fn each_part<K: Checked<C, S>, C, S>(
-    both: &mut Both<C, S>,
-    log: &Log,
+pub fn each_part<K: Checked<B>, B: Counted + ?Sized>(
+    both: &mut B,
+    log: &dyn Source,
     (honest, way): (&K, &Way),
     random: &mut Random,
 ) {
-    damage(both, log, (honest, way), &[], random);
-    for part in way.parts() {
-        damage(both, log, (honest, way), &[part], random);
-    }
+    alone(both, log, (honest, way), &way.parts(), random);
     let rows = if way.advancing { 0..ROWS } else { 0..0 };
     for row in rows.filter(|row| !way.in_use(*row)) {
         damage(both, log, (honest, way), &[Part::Row(row)], random);
@@ -313,10 +323,22 @@ fn each_part<K: Checked<C, S>, C, S>(
     hold(both, log, (&longer, way), told, "the length");
 }
 
+/// An honest proof: whole, and with each of these parts damaged.
+pub fn alone<K: Checked<B>, B: Counted + ?Sized>(
+    both: &mut B,
+    log: &dyn Source,
+    (honest, way): (&K, &Way),
+    parts: &[Part],
+    random: &mut Random,
+) {
+    damage(both, log, (honest, way), &[], random);
+    parts.iter().for_each(|part| damage(both, log, (honest, way), &[*part], random));
+}
+
 /// An honest proof with each two parts of one component damaged.
-fn each_two<K: Checked<C, S>, C, S>(
-    both: &mut Both<C, S>,
-    log: &Log,
+fn each_two<K: Checked<B>, B: Counted + ?Sized>(
+    both: &mut B,
+    log: &dyn Source,
     (honest, way): (&K, &Way),
     random: &mut Random,
 ) {
@@ -331,7 +353,7 @@ fn each_two<K: Checked<C, S>, C, S>(
 }
 
 /// Every path up to a small length.
-fn small_paths<K: Checked<C, S>, C, S>(both: &mut Both<C, S>, most: u64, random: &mut Random) {
+fn small_paths<K: Checked<B>, B: Counted + ?Sized>(both: &mut B, most: u64, random: &mut Random) {
     let store = sound(most, 0);
     let log = read(&store);
     for n in K::FIRST..=most {
@@ -344,9 +366,9 @@ fn small_paths<K: Checked<C, S>, C, S>(both: &mut Both<C, S>, most: u64, random:
 }
 
 /// Paths of a log, picked at random, half of them evenly spread and half of any size, with damage
-/// in any two parts, half the time in near ones, and in one.
-fn some_paths<K: Checked<C, S>, C, S>(
-    both: &mut Both<C, S>,
+/// in two parts and in one.
+fn some_paths<K: Checked<B>, B: Counted + ?Sized>(
+    both: &mut B,
     log: &Log,
     times: usize,
     random: &mut Random,
@@ -358,27 +380,37 @@ fn some_paths<K: Checked<C, S>, C, S>(
         };
         let i = random.between(K::FIRST, n);
         let (honest, way) = (K::honest(log, i, n), K::way(i, n));
-        let parts = way.parts();
-        let first = random.place(parts.len());
-        let near = (first + random.place(5)).min(parts.len() - 1);
-        let second = if random.once_in(2) { near } else { random.place(parts.len()) };
-        damage(both, log, (&honest, &way), &[parts[first], parts[second]], random);
-        damage(both, log, (&honest, &way), &[parts[second]], random);
+        any_two(both, log, (&honest, &way), random);
     }
 }
 
+/// Damage in any two parts, half the time in near ones, and in one.
+pub fn any_two<K: Checked<B>, B: Counted + ?Sized>(
+    both: &mut B,
+    log: &dyn Source,
+    (honest, way): (&K, &Way),
+    random: &mut Random,
+) {
+    let parts = way.parts();
+    let first = random.place(parts.len());
+    let near = (first + random.place(5)).min(parts.len() - 1);
+    let second = if random.once_in(2) { near } else { random.place(parts.len()) };
+    damage(both, log, (honest, way), &[parts[first], parts[second]], random);
+    damage(both, log, (honest, way), &[parts[second]], random);
+}
+
 /// Compares places on all small paths, and on some of a store of any length.
-pub fn run<K: Checked<C, S>, C, S>(both: &mut Both<C, S>, store: &[u8], scale: Scale) {
+pub fn run<K: Checked<B>, B: Counted + ?Sized>(both: &mut B, store: &[u8], scale: Scale) {
     let mut random = Random::new(SEED);
-    small_paths::<K, C, S>(both, scale.pick(SMALL, 16), &mut random);
+    small_paths::<K, B>(both, scale.pick(SMALL, 16), &mut random);
     let small = sound(SMALL, 0);
-    some_paths::<K, C, S>(both, &read(&small), scale.pick(4_000, 500), &mut random);
-    some_paths::<K, C, S>(both, &read(store), scale.pick(3_000, 100), &mut random);
+    some_paths::<K, B>(both, &read(&small), scale.pick(4_000, 500), &mut random);
+    some_paths::<K, B>(both, &read(store), scale.pick(3_000, 100), &mut random);
 }
 
 /// "All other refusals, 13 too, show 0 there": disputes on every small path, with a bit of one proof
 /// turned.
-pub fn disputes<C: MemberCalls, S: MemberCalls>(both: &mut Both<C, S>, scale: Scale) {
+pub fn disputes(both: &mut dyn BothMember, scale: Scale) {
     let mut random = Random::new(SEED);
     let store = sound(SMALL, 0);
     let most = scale.pick(SMALL, 12);
@@ -390,7 +422,7 @@ pub fn disputes<C: MemberCalls, S: MemberCalls>(both: &mut Both<C, S>, scale: Sc
         for (which, sides) in [(1, [bad, good]), (2, [good, bad])] {
             let answer = both.dispute(sides, i, n, &claim.digest, [BUFFER_LEAST; 2]);
             assert_eq!(answer, Answer { number: 13, beside: [which, 0, 0] });
-            both.told += 1;
+            both.count_told();
         }
     }
 }

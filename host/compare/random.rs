@@ -4,6 +4,8 @@ use std::time::{SystemTime, UNIX_EPOCH};
 
 use second::LIMIT;
 
+use crate::logs::OLD_LIMIT;
+
 pub struct Random(u64);
 
 impl Random {
@@ -52,8 +54,10 @@ impl Random {
 
     /// The number itself, one beside it, or one of those at which a sum or a shift could slip.
     pub fn number_near(&mut self, number: u64) -> u64 {
-        let at_the_ends =
-            [0, 1, LIMIT, LIMIT + 1, 1 << 32, 1 << 63, u64::MAX - 1, u64::MAX, number ^ (1 << 40)];
+        let small = [0, 1, OLD_LIMIT, OLD_LIMIT + 1, 1 << 31, LIMIT - 1, LIMIT];
+        let over = [LIMIT + 1, LIMIT + 2, 1 << 63, u64::MAX - 1, u64::MAX];
+        let turned = [20, 31, 32, 40].map(|bit| number ^ (1 << bit));
+        let at_the_ends = [&small[..], &over, &turned].concat();
         match self.below(6) {
             0 => number.wrapping_add(1),
             1 => number.wrapping_sub(1),

@@ -2,7 +2,7 @@
 //!
 //! A state is written and read back, and a file that reads is written again each time.
 
-use lotlog::{Answer, Digest};
+use lotlog::{Answer, Digest, HELD_BYTES};
 use second::hash::Sha256;
 use second::held::{self, held_of, held_start, in_use, ROWS};
 use second::saved::{file_length, file_of, FILE_LEAST, FILE_MOST};
@@ -10,10 +10,9 @@ use second::store::Log;
 use second::LIMIT;
 
 use crate::advance::Step;
-use crate::both::{Both, BEFORE};
-use crate::calls::{AdvanceCalls, SavedCalls};
+use crate::both::{BothKept, BEFORE};
 use crate::damage::{bit_turned, spoiled};
-use crate::logs::{read, sound};
+use crate::logs::{read, sound, LOG, OLD_LIMIT, REAL};
 use crate::random::Random;
 use crate::second_calls::held_bytes;
 use crate::Scale;
@@ -26,10 +25,20 @@ const LOG_NUMBER: usize = 5;
 const COUNT: usize = 13;
 const DIGEST: usize = 21;
 
-/// The counts of the files that are spoiled byte by byte and in their length.
-const COUNTS: [u64; 7] = [0, 1, 5, 12, 300, 1 << 19, LIMIT];
+/// Files that were written before A7, each as its log number, its count and its bytes in hexadecimal
+/// digits. Those of the logs' number are states of the log of all comparisons, the others starts.
+const FROM_BEFORE: &str = include_str!("../files/before-a7.txt");
 
-pub fn run<C: SavedCalls + AdvanceCalls>(both: &mut Both<C>, scale: Scale) {
+/// The rows that a state had before A7.
+const OLD_ROWS: usize = 20;
+
+/// The counts of the files that are spoiled byte by byte and in their length.
+const COUNTS: [u64; 9] = [0, 1, 5, 12, 300, OLD_LIMIT, OLD_LIMIT + 1, 1 << 31, LIMIT];
+
+/// Lengths of files are tried up to this one, which is longer than any file.
+const LONGEST: usize = FILE_MOST + 67;
+
+pub fn run(both: &mut dyn BothKept, scale: Scale) {
     let mut random = Random::new(SEED);
     every_count(both, scale.pick(300, 20), &mut random);
     large_counts(both, scale.pick(500, 10), &mut random);
@@ -55,6 +64,8 @@ pub fn run<C: SavedCalls + AdvanceCalls>(both: &mut Both<C>, scale: Scale) {
         let state = made_up(count, &mut random);
         any_call(both, &state, &mut random);
     }
+    drop(store);
+    files_from_before(both, &sound(scale.pick(REAL, 300), 0));
 }
 
 fn some_digest(random: &mut Random) -> Digest {
@@ -70,7 +81,7 @@ fn some_count(random: &mut Random) -> u64 {
 }
 
 /// A state in order with made-up rows and, where the count is not 0, a made-up digest.
-fn made_up(count: u64, random: &mut Random) -> held::Held {
+pub fn made_up(count: u64, random: &mut Random) -> held::Held {
     let mut state = held_start::<Sha256>(random.next());
     if count > 0 {
         state.count = count;
@@ -84,20 +95,20 @@ fn made_up(count: u64, random: &mut Random) -> held::Held {
 
 /// Reads a file. One that reads has the length of its count and gives itself back when written; one
 /// that is refused leaves the lent state.
-fn read_file<C: SavedCalls>(both: &mut Both<C>, file: &[u8]) -> u64 {
+pub fn read_file<B: BothKept + ?Sized>(both: &mut B, file: &[u8]) -> u64 {
     let (number, held) = both.held_read(file);
     if number == 0 {
         let (answer, again) = both.held_write(&held, file.len());
         assert_eq!(answer, Answer { number: 0, beside: [file.len() as u64, 0, 0] });
         assert!(again == file, "the file itself");
     } else {
-        assert!(held == [BEFORE; 688], "the lent state as it was");
+        assert!(held == [BEFORE; HELD_BYTES], "the lent state as it was");
     }
     number
 }
 
 /// Writes a state in order into outputs of many lengths and reads it back; gives its file.
-fn save<C: SavedCalls>(both: &mut Both<C>, state: &held::Held) -> Vec<u8> {
+pub fn save<B: BothKept + ?Sized>(both: &mut B, state: &held::Held) -> Vec<u8> {
     let held = held_bytes(state);
     let file = file_of(state);
     let need = file.len();
@@ -118,7 +129,7 @@ fn save<C: SavedCalls>(both: &mut Both<C>, state: &held::Held) -> Vec<u8> {
 }
 
 /// A state that is not in order has no file, whatever room there is for one.
-fn refuse_state<C: SavedCalls>(both: &mut Both<C>, state: &held::Held) {
+pub fn refuse_state<B: BothKept + ?Sized>(both: &mut B, state: &held::Held) {
     for room in [FILE_MOST, FILE_MOST + 40, FILE_LEAST, FILE_LEAST - 1, 0] {
         let (answer, out) = both.held_write(&held_bytes(state), room);
         assert_eq!(answer, Answer { number: 2, beside: [0; 3] });
@@ -127,10 +138,7 @@ fn refuse_state<C: SavedCalls>(both: &mut Both<C>, state: &held::Held) {
 }
 
 /// States of every count up to a small one: made up, and a log's own.
-fn every_count<C>(both: &mut Both<C>, most: u64, random: &mut Random)
-where
-    C: SavedCalls + AdvanceCalls,
-{
+fn every_count(both: &mut dyn BothKept, most: u64, random: &mut Random) {
     let store = sound(most, 0);
     let log = read(&store);
     for count in 0..=most {
@@ -142,7 +150,7 @@ where
 }
 
 /// States up to the limit: powers of two and what lies beside them, and any others.
-fn large_counts<C: SavedCalls>(both: &mut Both<C>, times: u64, random: &mut Random) {
+fn large_counts(both: &mut dyn BothKept, times: u64, random: &mut Random) {
     for level in 0..ROWS {
         let power = 1 << level;
         for count in [power, power - 1, power + 1, LIMIT - power, LIMIT >> level] {
@@ -159,7 +167,7 @@ fn large_counts<C: SavedCalls>(both: &mut Both<C>, times: u64, random: &mut Rand
 
 /// "Row l is in use exactly if bit l of n is 1": a row of zeros too. Nor is a digest judged at a
 /// count that is not 0.
-fn rows_of_zeros<C: SavedCalls>(both: &mut Both<C>, random: &mut Random) {
+fn rows_of_zeros(both: &mut dyn BothKept, random: &mut Random) {
     for row in 0..ROWS {
         for count in [1 << row, LIMIT, random.between(0, LIMIT) | 1 << row] {
             let mut state = made_up(count, random);
@@ -167,7 +175,7 @@ fn rows_of_zeros<C: SavedCalls>(both: &mut Both<C>, random: &mut Random) {
             save(both, &state);
         }
     }
-    for count in [1, 2, 5, 12, 300, 1 << 19, LIMIT] {
+    for &count in &COUNTS[1..] {
         let state = held::Held { rows: [[0; 32]; ROWS], ..made_up(count, random) };
         save(both, &state);
         save(both, &held::Held { digest: [0; 32], ..state.clone() });
@@ -177,20 +185,20 @@ fn rows_of_zeros<C: SavedCalls>(both: &mut Both<C>, random: &mut Random) {
 }
 
 /// Counts over the limit, beside which all is in order.
-fn over_the_limit<C: SavedCalls>(both: &mut Both<C>, random: &mut Random) {
+fn over_the_limit(both: &mut dyn BothKept, random: &mut Random) {
     for count in [0, 5, LIMIT] {
         let state = made_up(count, random);
-        for bit in 20..64 {
+        for bit in 32..64 {
             refuse_state(both, &held::Held { count: count | 1 << bit, ..state.clone() });
         }
         refuse_state(both, &held::Held { count: count | !LIMIT, ..state.clone() });
-        refuse_state(both, &held::Held { count: count | 0xFFFF_FFFF << 20, ..state });
+        refuse_state(both, &held::Held { count: count | 0xFFFF << 32, ..state });
     }
     assert_eq!(LIMIT | !LIMIT, u64::MAX);
 }
 
 /// Each row in turn not zero where it is free: beside free ones, beside used ones, and among any.
-fn free_rows<C: SavedCalls>(both: &mut Both<C>, random: &mut Random) {
+fn free_rows(both: &mut dyn BothKept, random: &mut Random) {
     for row in 0..ROWS {
         for count in [0, LIMIT ^ (1 << row), random.between(0, LIMIT) & !(1 << row)] {
             let good = made_up(count, random);
@@ -206,7 +214,7 @@ fn free_rows<C: SavedCalls>(both: &mut Both<C>, random: &mut Random) {
 
 /// Count 0 with another digest, of another log too: as a state, and as a file, whose one cause of a
 /// refusal it is.
-fn wrong_starts<C: SavedCalls>(both: &mut Both<C>, random: &mut Random) {
+fn wrong_starts(both: &mut dyn BothKept, random: &mut Random) {
     for log in [0, 1, 7, 1 << 63, u64::MAX, random.next()] {
         let start = held_start::<Sha256>(log);
         save(both, &start);
@@ -227,11 +235,11 @@ fn wrong_starts<C: SavedCalls>(both: &mut Both<C>, random: &mut Random) {
 }
 
 /// A file cut and made longer, to every length up to more than the longest.
-fn every_length<C: SavedCalls>(both: &mut Both<C>, count: u64, random: &mut Random) {
+fn every_length(both: &mut dyn BothKept, count: u64, random: &mut Random) {
     let file = save(both, &made_up(count, random));
-    for tail in [vec![0; 760], random.bytes(760), file.repeat(15)] {
+    for tail in [vec![0; LONGEST], random.bytes(LONGEST), file.repeat(22)] {
         let longest = [&file[..], &tail].concat();
-        for length in 0..=760 {
+        for length in 0..=LONGEST {
             let expected = match length {
                 _ if length < FILE_LEAST => 18,
                 _ if length == file.len() => 0,
@@ -243,7 +251,7 @@ fn every_length<C: SavedCalls>(both: &mut Both<C>, count: u64, random: &mut Rand
 }
 
 /// Writes a count into a file that has room for it.
-fn set_count(file: &mut [u8], count: u64) {
+pub fn set_count(file: &mut [u8], count: u64) {
     file[COUNT..DIGEST].copy_from_slice(&count.to_be_bytes());
 }
 
@@ -251,15 +259,15 @@ fn set_count(file: &mut [u8], count: u64) {
 fn count_of_rows(rows: u32, random: &mut Random) -> u64 {
     let mut count = 0u64;
     while count.count_ones() < rows {
-        count |= 1 << random.below(20);
+        count |= 1 << random.place(ROWS);
     }
     count
 }
 
 /// Files of every length that are random bytes: all of them; behind a good mark and version; and
 /// with a count that has any number of rows, or as many as fit.
-fn lengths_of_any_head<C: SavedCalls>(both: &mut Both<C>, random: &mut Random) {
-    for length in 0..=760 {
+fn lengths_of_any_head(both: &mut dyn BothKept, random: &mut Random) {
+    for length in 0..=LONGEST {
         let short = length < FILE_LEAST;
         let bytes = random.bytes(length.max(FILE_LEAST));
         assert_eq!(read_file(both, &bytes[..length]), if short { 18 } else { 19 });
@@ -292,7 +300,7 @@ fn number_at(at: usize, count: u64) -> Option<u64> {
 }
 
 /// Changes one byte of a file by the bits given.
-fn change_byte<C: SavedCalls>(both: &mut Both<C>, file: &[u8], at: usize, bits: u8, count: u64) {
+fn change_byte(both: &mut dyn BothKept, file: &[u8], at: usize, bits: u8, count: u64) {
     let mut changed = file.to_vec();
     changed[at] ^= bits;
     let number = read_file(both, &changed);
@@ -300,7 +308,7 @@ fn change_byte<C: SavedCalls>(both: &mut Both<C>, file: &[u8], at: usize, bits: 
 }
 
 /// Each byte of a file changed to other values.
-fn every_byte<C: SavedCalls>(both: &mut Both<C>, count: u64, random: &mut Random) {
+fn every_byte(both: &mut dyn BothKept, count: u64, random: &mut Random) {
     let file = save(both, &made_up(count, random));
     for at in 0..file.len() {
         for bits in [1, 0x80, 0xFF, random.between(2, 127) as u8] {
@@ -310,7 +318,7 @@ fn every_byte<C: SavedCalls>(both: &mut Both<C>, count: u64, random: &mut Random
 }
 
 /// Each bit of a file turned.
-fn every_bit<C: SavedCalls>(both: &mut Both<C>, count: u64, random: &mut Random) {
+fn every_bit(both: &mut dyn BothKept, count: u64, random: &mut Random) {
     let file = save(both, &made_up(count, random));
     for bit in 0..8 * file.len() {
         change_byte(both, &file, bit / 8, 1 << (bit % 8), count);
@@ -318,10 +326,7 @@ fn every_bit<C: SavedCalls>(both: &mut Both<C>, count: u64, random: &mut Random)
 }
 
 /// Each byte before the digest with every value.
-fn every_value_of_the_head<C>(both: &mut Both<C>, counts: &[u64], random: &mut Random)
-where
-    C: SavedCalls,
-{
+fn every_value_of_the_head(both: &mut dyn BothKept, counts: &[u64], random: &mut Random) {
     for &count in counts {
         let file = save(both, &made_up(count, random));
         for at in 0..DIGEST {
@@ -356,8 +361,8 @@ const DAMAGES: [Damage; 24] = [
     (21, |file| set_count(file, u64::MAX)),
     (21, |file| file[COUNT] = 0x80),
     (21, |file| file[COUNT + 2] = 1),
-    (21, |file| file[COUNT + 4] = 1),
-    (21, |file| file[COUNT + 5] |= 0x10),
+    (21, |file| file[COUNT + 3] = 1),
+    (21, |file| file[COUNT + 3] |= 0x80),
     (22, |file| file.push(0)),
     (22, |file| file.extend([0; 31])),
     (22, |file| file.extend([0xFF; 32])),
@@ -387,7 +392,7 @@ const DAMAGES_AT_0: [Damage; 5] = [
 /// 21 and 2 can't: 2 is for count 0, which is not over the limit. All others can. 18 and 21 have 22
 /// beside them in any case, since no count has a file under 53 bytes, and one over the limit has
 /// none of any length. At count 0, 18 has 2 too, since a digest that was cut is not T(0).
-fn causes<C: SavedCalls>(both: &mut Both<C>, count: u64, random: &mut Random) {
+fn causes(both: &mut dyn BothKept, count: u64, random: &mut Random) {
     let file = save(both, &made_up(count, random));
     let more = if count == 0 { &DAMAGES_AT_0[..] } else { &DAMAGES_WITH_ROWS };
     let damages = [&DAMAGES, more].concat();
@@ -412,10 +417,7 @@ fn can_stand_together(one: u64, other: u64) -> bool {
 
 /// A state that was saved and read goes on as the state itself does: to the log's next state, or to
 /// the same refusal.
-fn go_on_from<C>(both: &mut Both<C>, log: &Log, i: u64, n: u64, random: &mut Random)
-where
-    C: SavedCalls + AdvanceCalls,
-{
+fn go_on_from(both: &mut dyn BothKept, log: &Log, i: u64, n: u64, random: &mut Random) {
     let file = save(both, &held_of::<Sha256>(log, i));
     let (_, held) = both.held_read(&file);
     let own = Step::honest(log, i, n);
@@ -428,10 +430,7 @@ where
 }
 
 /// Goes on between all lengths up to a small one, and between any.
-fn go_on<C>(both: &mut Both<C>, log: &Log, scale: Scale, random: &mut Random)
-where
-    C: SavedCalls + AdvanceCalls,
-{
+fn go_on(both: &mut dyn BothKept, log: &Log, scale: Scale, random: &mut Random) {
     for n in 0..=scale.pick(24, 6) {
         (0..=n).for_each(|i| go_on_from(both, log, i, n, random));
     }
@@ -443,7 +442,7 @@ where
 }
 
 /// A walk from the start to the end of the log, with a new terminal after each step.
-fn walk<C: SavedCalls + AdvanceCalls>(both: &mut Both<C>, log: &Log, random: &mut Random) {
+fn walk(both: &mut dyn BothKept, log: &Log, random: &mut Random) {
     let mut at = 0;
     let mut held = both.held_start(log.number);
     while at < log.count {
@@ -459,7 +458,7 @@ fn walk<C: SavedCalls + AdvanceCalls>(both: &mut Both<C>, log: &Log, random: &mu
 
 /// One call of the group on a state: it is written, changed now and then, or its file is read,
 /// spoiled now and then.
-pub fn any_call<C: SavedCalls>(both: &mut Both<C>, state: &held::Held, random: &mut Random) {
+pub fn any_call(both: &mut dyn BothKept, state: &held::Held, random: &mut Random) {
     if random.once_in(2) {
         let state = if random.once_in(3) { changed(state, random) } else { state.clone() };
         let need = file_length(state.count);
@@ -488,4 +487,61 @@ fn changed(state: &held::Held, random: &mut Random) -> held::Held {
         _ => other.rows[random.place(ROWS)][random.place(32)] ^= bits,
     }
     other
+}
+
+/// A file from before A7.
+struct Old {
+    log: u64,
+    count: u64,
+    file: Vec<u8>,
+}
+
+fn old_file(line: &str) -> Old {
+    let words: Vec<&str> = line.split_whitespace().collect();
+    let number = |at: usize| words[at].parse().expect("a number");
+    let digits = words[2].as_bytes().chunks(2).map(|two| std::str::from_utf8(two).expect("ASCII"));
+    let file = digits.map(|two| u8::from_str_radix(two, 16).expect("two digits")).collect();
+    Old { log: number(0), count: number(1), file }
+}
+
+/// "A file from A4 still reads, since it holds used rows only": to the state that the log has there,
+/// whose new rows are zero, and which goes on. Files of counts that the store does not reach are left
+/// out.
+fn files_from_before(both: &mut dyn BothKept, store: &[u8]) {
+    let log = read(store);
+    let lines = FROM_BEFORE.lines().filter(|line| !line.is_empty() && !line.starts_with('#'));
+    let old: Vec<Old> = lines.map(old_file).filter(|old| old.count <= log.count).collect();
+    assert!(old.iter().any(|old| old.count == 0) && old.iter().any(|old| old.count > 0));
+    for old in old {
+        let state = match old.log {
+            LOG => held_of::<Sha256>(&log, old.count),
+            other => held_start::<Sha256>(other),
+        };
+        assert_eq!((state.count, state.log), (old.count, old.log));
+        assert!(state.rows[OLD_ROWS..].iter().all(|row| *row == [0; 32]), "new rows are zero");
+        let held = held_bytes(&state);
+        assert!(both.held_read(&old.file) == (0, held), "the state itself");
+        assert!(save(both, &state) == old.file, "the file itself");
+        refuse_old(both, &old);
+        if old.log == LOG && old.count < log.count {
+            for n in [old.count + 1, log.count] {
+                let (answer, after) = Step { held, ..Step::honest(&log, old.count, n) }.check(both);
+                assert_eq!(answer.number, 0);
+                assert!(after == held_bytes(&held_of::<Sha256>(&log, n)), "the log's own state");
+            }
+        }
+    }
+}
+
+/// A file from before A7 that is cut, or has all rows, or a count over the limit.
+fn refuse_old(both: &mut dyn BothKept, old: &Old) {
+    let length = old.file.len();
+    let shorter = &old.file[..length - 1];
+    assert_eq!(read_file(both, shorter), if length == FILE_LEAST { 18 } else { 22 });
+    for rows in [1, ROWS - OLD_ROWS] {
+        assert_eq!(read_file(both, &[&old.file[..], &vec![0; 32 * rows]].concat()), 22);
+    }
+    let mut over = old.file.clone();
+    set_count(&mut over, old.count | 1 << 32);
+    assert_eq!(read_file(both, &over), 21);
 }

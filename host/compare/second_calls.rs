@@ -38,15 +38,16 @@ fn lent<T>(result: refusal::Answer<T>, place: &mut T) -> u64 {
     }
 }
 
-/// The 688 bytes of a held state: "log number, count (8 bytes each, big-endian), digest, 20 rows".
+/// The bytes of a held state: log number, count (8 bytes each, big-endian), digest, and a row for
+/// each level.
 pub fn held_bytes(held: &held::Held) -> Held {
     let parts =
         [&held.log.to_be_bytes()[..], &held.count.to_be_bytes(), &held.digest, &held.rows.concat()];
-    parts.concat().try_into().expect("688 bytes")
+    parts.concat().try_into().expect("the bytes of a state")
 }
 
-/// The held state of 688 bytes.
-fn held_of_bytes(bytes: &Held) -> held::Held {
+/// The held state of these bytes.
+pub fn held_of_bytes(bytes: &Held) -> held::Held {
     let number = |at: usize| u64::from_be_bytes(bytes[at..at + 8].try_into().expect("8 bytes"));
     let digest = |at: usize| -> Digest { bytes[at..at + 32].try_into().expect("32 bytes") };
     let mut rows = [[0; 32]; held::ROWS];

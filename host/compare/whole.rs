@@ -9,14 +9,14 @@ use second::store::{place, Log, HEADER, RECORD, STATE};
 use second::ENTRY_MOST;
 
 use crate::advance::Step;
-use crate::both::Both;
+use crate::both::{Both, BothAdvance, BothKept, BothMember, BothStore};
 use crate::calls::{AdvanceCalls, HashCalls, MemberCalls, SavedCalls};
 use crate::calls::{SealCalls, StoreCalls, TrieCalls};
 use crate::damage::spoiled;
 use crate::logs::{read, sound};
 use crate::member::Claim;
 use crate::random::Random;
-use crate::{saved, sealed, trie};
+use crate::{ends, saved, sealed, trie};
 
 /// The lengths of the logs that the calls work on. They leave room for elements, or do not.
 const LOGS: [(u64, u64); 9] =
@@ -146,7 +146,7 @@ fn hash<C: HashCalls>(both: &mut Both<C>, random: &mut Random) {
     both.hash(&message);
 }
 
-fn start<C: StoreCalls>(both: &mut Both<C>, store: &[u8], random: &mut Random) {
+fn start(both: &mut dyn BothStore, store: &[u8], random: &mut Random) {
     let mut store = maybe_damaged(store, random);
     let log = random.next();
     both.start(&mut store, random.number_near(log));
@@ -175,7 +175,7 @@ fn look<C: StoreCalls + AdvanceCalls>(both: &mut Both<C>, store: &[u8], random: 
     }
 }
 
-fn append<C: StoreCalls>(both: &mut Both<C>, store: &[u8], random: &mut Random) {
+fn append(both: &mut dyn BothStore, store: &[u8], random: &mut Random) {
     let mut store = maybe_damaged(store, random);
     for _ in 0..3 {
         let stop = random.between(0, 70);
@@ -185,7 +185,7 @@ fn append<C: StoreCalls>(both: &mut Both<C>, store: &[u8], random: &mut Random) 
     }
 }
 
-fn build_membership<C: MemberCalls>(both: &mut Both<C>, store: &[u8], random: &mut Random) {
+fn build_membership(both: &mut dyn BothMember, store: &[u8], random: &mut Random) {
     let n = held_number(&read(store), random);
     let (i, n) = (random.between(0, n), random.number_near(n));
     let i = random.number_near(i);
@@ -194,7 +194,7 @@ fn build_membership<C: MemberCalls>(both: &mut Both<C>, store: &[u8], random: &m
     both.build_membership(&maybe_damaged(store, random), i, n, room);
 }
 
-fn build_advancement<C: AdvanceCalls>(both: &mut Both<C>, store: &[u8], random: &mut Random) {
+fn build_advancement(both: &mut dyn BothAdvance, store: &[u8], random: &mut Random) {
     let n = held_number(&read(store), random);
     let (i, n) = (random.between(0, n), random.number_near(n));
     let i = random.number_near(i);
@@ -203,8 +203,11 @@ fn build_advancement<C: AdvanceCalls>(both: &mut Both<C>, store: &[u8], random: 
     both.build_advancement(&maybe_damaged(store, random), i, n, room);
 }
 
-/// An honest claim on a log that is not empty.
+/// An honest claim on a log that is not empty, or now and then on a made-up one.
 fn some_claim(store: &[u8], random: &mut Random) -> Option<Claim> {
+    if random.once_in(12) {
+        return Some(ends::some_claim(random));
+    }
     let log = read(store);
     if log.count == 0 {
         return None;
@@ -213,7 +216,7 @@ fn some_claim(store: &[u8], random: &mut Random) -> Option<Claim> {
     Some(Claim::honest(&log, random.between(1, n), n))
 }
 
-fn check_membership<C: MemberCalls>(both: &mut Both<C>, store: &[u8], random: &mut Random) {
+fn check_membership(both: &mut dyn BothMember, store: &[u8], random: &mut Random) {
     let honest = match some_claim(store, random) {
         Some(claim) => claim,
         None => return,
@@ -233,25 +236,33 @@ fn check_membership<C: MemberCalls>(both: &mut Both<C>, store: &[u8], random: &m
     Claim { entry, i, n, digest, proof }.check(both);
 }
 
-fn check_advancement<C: AdvanceCalls>(both: &mut Both<C>, store: &[u8], random: &mut Random) {
+/// An honest step of a log, or now and then of a made-up one.
+fn some_step(store: &[u8], random: &mut Random) -> Step {
+    if random.once_in(12) {
+        return ends::some_step(random);
+    }
     let log = read(store);
     let n = held_number(&log, random);
-    let honest = Step::honest(&log, random.between(0, n), n);
+    Step::honest(&log, random.between(0, n), n)
+}
+
+fn check_advancement(both: &mut dyn BothAdvance, store: &[u8], random: &mut Random) {
+    let honest = some_step(store, random);
     honest.check(both);
     let held = maybe_changed(honest.held, 3, random);
-    let n = if random.once_in(4) { random.number_near(n) } else { n };
+    let n = if random.once_in(4) { random.number_near(honest.n) } else { honest.n };
     let digest = maybe_changed(honest.digest, 6, random);
     let proof = maybe_spoiled(&honest.proof, 2, random);
     Step { held, n, digest, proof }.check(both);
 }
 
-fn save<C: SavedCalls>(both: &mut Both<C>, store: &[u8], random: &mut Random) {
+fn save(both: &mut dyn BothKept, store: &[u8], random: &mut Random) {
     let log = read(store);
     let state = held_of::<Sha256>(&log, held_number(&log, random));
     saved::any_call(both, &state, random);
 }
 
-fn dispute<C: MemberCalls>(both: &mut Both<C>, store: &[u8], random: &mut Random) {
+fn dispute(both: &mut dyn BothMember, store: &[u8], random: &mut Random) {
     let honest = match some_claim(store, random) {
         Some(claim) => claim,
         None => return,

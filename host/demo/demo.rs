@@ -11,7 +11,7 @@ use std::{env, fs, process};
 
 use lotlog::file::{load_held, save_held, Error, Refusal};
 use lotlog::{store_bytes, Answer, Digest, Held, Side};
-use lotlog::{CLOSING, SEALED_BESIDE, TRIE_PROOF_MOST, WHOLE};
+use lotlog::{CLOSING, HELD_BYTES, SEALED_BESIDE, TRIE_PROOF_MOST, WHOLE};
 
 const LOG: u64 = 7;
 const ROOM: usize = 16;
@@ -164,7 +164,7 @@ fn publish(files: &Files, lot: Lot, i: u64, n: u64, lengths: [u64; 2]) {
 
 /// The practice begins.
 fn hold_start(files: &Files) {
-    let mut held = [0; 688];
+    let mut held = [0; HELD_BYTES];
     tell_done("held state at the start", lotlog::held_start(LOG, &mut held), "");
     files.write("held.after", &held);
 }
@@ -250,7 +250,7 @@ fn check_changed(files: &Files, notice: Lot, other: &[u8], n: u64) {
 /// 8 that row 1 must equal. Before it lie the component of 6, of 96 bytes, and d and two links of 8.
 fn advance_changed(files: &Files, i: u64, n: u64) {
     let store = files.read("store.lot");
-    let (mut held, mut proof) = ([0; 688], [0; 384]);
+    let (mut held, mut proof) = ([0; HELD_BYTES], [0; 384]);
     must_be(alone(lotlog::held_at(&store, i, &mut held)), alone(0));
     let built = lotlog::build_advancement(&store, i, n, &mut proof);
     must_be(built, Answer { number: 0, beside: [384, 0, 0] });
@@ -263,7 +263,7 @@ fn advance_changed(files: &Files, i: u64, n: u64) {
 /// The saved file is read without its last byte.
 fn read_cut(files: &Files) {
     let file = files.read("held.file");
-    let number = lotlog::held_read(&file[..file.len() - 1], &mut [0; 688]);
+    let number = lotlog::held_read(&file[..file.len() - 1], &mut [0; HELD_BYTES]);
     tell_alone("the saved file without its last byte", number, 22, "");
 }
 

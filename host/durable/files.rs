@@ -72,6 +72,11 @@ impl Tests {
     }
 }
 
+/// Whether a call failed since the disk is full.
+fn finds_no_space<T>(result: Result<T, Error>) -> bool {
+    matches!(result, Err(Error::System(e)) if e.raw_os_error() == Some(system::NO_SPACE))
+}
+
 fn creating(tests: &mut Tests) {
     for room in [0, 1, 2, 63, 1000] {
         let (path, writer, expected) = tests.store(&format!("create-{}", room), room, 0);
@@ -85,11 +90,12 @@ fn creating(tests: &mut Tests) {
     tests.fails("too much room", long, ErrorKind::InvalidInput);
     let nowhere = Writer::create(&tests.path("no/such/folder"), LOG, 1);
     tests.fails("no such folder", nowhere, ErrorKind::NotFound);
-    system::fail_reservation(1);
-    let full = Writer::create(&path, LOG, 10);
-    let told = matches!(&full, Err(Error::System(e)) if e.raw_os_error() == Some(system::NO_SPACE));
-    tests.look("a full disk", told);
-    tests.look("no file is left", !path.exists());
+    // the most room that a log may have is asked for like any other
+    for room in [10, ELEMENTS_MOST] {
+        system::fail_reservation(1);
+        tests.look("a full disk", finds_no_space(Writer::create(&path, LOG, room)));
+        tests.look("no file is left", !path.exists());
+    }
     // of the bytes, of the file and of its name in the folder
     for fail in
         [|| system::fail_flush(1), || system::fail_file_flush(1), || system::fail_file_flush(2)]
@@ -205,6 +211,8 @@ fn growing(tests: &mut Tests) {
     tests.fails("too much", writer.grow(most + 1), ErrorKind::InvalidInput);
     tests.fails("far too much", writer.grow(usize::MAX), ErrorKind::InvalidInput);
     tests.refused("still no room", writer.append(b"x"), 5);
+    system::fail_reservation(1);
+    tests.look("the most that fits is asked for", finds_no_space(writer.grow(most)));
     tests.holds("the store is as it was", &path, &expected.store);
 }
 

@@ -25,7 +25,7 @@ use second::LIMIT;
 
 use crate::process::{shared, Process};
 use crate::system::{self, Step};
-use crate::{beside, end_in_the_middle, Tests, ENDS};
+use crate::{beside, end_in_the_middle, finds_no_space, Tests, ENDS};
 
 extern "C" {
     fn mkfifo(path: *const c_char, rights: u32) -> c_int;
@@ -171,8 +171,7 @@ fn failing(tests: &mut Tests) {
     }
     system::fail_write(1);
     let full = save(&tests.path("held-full"), &new);
-    let told = matches!(full, Err(Error::System(e)) if e.raw_os_error() == Some(system::NO_SPACE));
-    tests.look("the first error is told", told);
+    tests.look("the first error is told", finds_no_space(full));
 }
 
 /// A leftover, longer than the new file or shorter, is overwritten; the rights of the old file are kept.
@@ -296,7 +295,8 @@ fn damaged(tests: &mut Tests) {
         (bit_turned(&good, 8 * 2 + 7), 19),
         (bit_turned(&good, 8 * 4 + 1), 20),
         (bit_turned(&good, 8 * 13), 21),
-        (bit_turned(&good, 8 * 18 + 4), 21),
+        (bit_turned(&good, 8 * 16), 21),
+        (bit_turned(&good, 8 * 17 + 7), 22),
         (bit_turned(&good, 8 * 20 + 1), 22),
         (good[..good.len() - 1].to_vec(), 22),
         ([&good[..], &[0]].concat(), 22),

@@ -10,21 +10,28 @@
 //! Then stand the files of held states, whole. For these the log goes on to twelve elements: from 4
 //! on, the entry of element j is j bytes of the value j.
 //!
-//! At the end stand the answers to broken proofs of that log. A proof is cut into parts of 32 bytes,
+//! Then stand the answers to broken proofs of that log. A proof is cut into parts of 32 bytes,
 //! counted from 0, and the first bit of the parts named is turned. An answer is the number, the hops
 //! found good, the element, and the row or the level, 8 bytes each.
+//!
+//! At the end stand figures of the ends that document 02, A7, moves: the hops of paths and the lengths
+//! of their proofs, 8 bytes each; and what comes of a log of 4,294,967,295 elements, of which only
+//! those on the path from 1 are there. The entry of element j is the 8 bytes of j. The digest of any
+//! other element is made up: the hash of the 8 bytes of its number.
+
+use std::collections::BTreeMap;
 
 use second::hash::{Hash, Sha256, Xor};
-use second::held::{check_advancement, held_of};
-use second::message::entry_digest;
-use second::path::{advancement, membership};
+use second::held::{check_advancement, held_of, held_start, in_use, Held, ROWS};
+use second::message::{element, element_digest, entry_digest, start_digest};
+use second::path::{advancement, component_length, membership, proof_length, trailing_zeros};
 use second::proof::{check_membership, proof_of};
 use second::refusal::Refusal;
 use second::saved::file_of;
 use second::sealed::{self, BESIDE_DATA, CLOSING, FIRST_CHAIN};
 use second::store::{store_of, Log};
 use second::trie::{self, Kind, PROOF_MOST};
-use second::Digest;
+use second::{Digest, LIMIT};
 
 const LOG: u64 = 7;
 const LAST: u64 = 3;
@@ -153,6 +160,106 @@ fn print_van<H: Hash>(hash: &str) {
     print(&format!("{}.van.log", hash), &log);
 }
 
+/// The limit before A7, and the middle of the new one, to which the longest hop goes.
+const OLD_LIMIT: u64 = 1_048_575;
+const MIDDLE: u64 = 1 << 31;
+
+fn print_path(name: &str, hops: usize, elements: &[u64]) {
+    print(&format!("{}.hops", name), &(hops as u64).to_be_bytes());
+    print(&format!("{}.length", name), &(proof_length(elements) as u64).to_be_bytes());
+}
+
+/// Hops of paths and lengths of proofs and of the longest message.
+fn print_lengths() {
+    let firsts = [1, 2, OLD_LIMIT, OLD_LIMIT + 1, MIDDLE - 1, MIDDLE, LIMIT - 1, LIMIT];
+    let pairs = firsts.map(|i| (i, LIMIT)).into_iter().chain([
+        (1, LIMIT - 1),
+        (1, MIDDLE),
+        (MIDDLE, MIDDLE),
+        (1, OLD_LIMIT),
+        (OLD_LIMIT, OLD_LIMIT + 1),
+    ]);
+    for (i, n) in pairs {
+        let path = membership(i, n).expect("a path");
+        print_path(&format!("membership({},{})", i, n), path.len() - 1, &path);
+    }
+    for (i, n) in [(0, LIMIT), (1, LIMIT), (0, MIDDLE), (MIDDLE - 1, MIDDLE), (0, OLD_LIMIT + 1)] {
+        let path = advancement(i, n).expect("a path");
+        print_path(&format!("advancement({},{})", i, n), path.len(), &path);
+    }
+    let longest = element(MIDDLE, &vec![0; component_length(MIDDLE)]).len() as u64;
+    print(&format!("message({}).length", MIDDLE), &longest.to_be_bytes());
+}
+
+/// A log of 4,294,967,295 elements: the digests of those that are there.
+struct Longest(BTreeMap<u64, Digest>);
+
+impl Longest {
+    fn new<H: Hash>() -> Longest {
+        let mut log = Longest(BTreeMap::from([(0, start_digest::<H>(LOG))]));
+        for j in membership(1, LIMIT).expect("a path") {
+            let digest = element_digest::<H>(j, &log.proof::<H>(&[j]));
+            log.0.insert(j, digest);
+        }
+        log
+    }
+
+    fn digest<H: Hash>(&self, j: u64) -> Digest {
+        self.0.get(&j).copied().unwrap_or_else(|| H::of(&j.to_be_bytes()))
+    }
+
+    /// The components of these elements.
+    fn proof<H: Hash>(&self, elements: &[u64]) -> Vec<u8> {
+        let component = |j: u64| {
+            let links = (0..=trailing_zeros(j)).map(|level| self.digest::<H>(j - (1 << level)));
+            [vec![entry_digest::<H>(&j.to_be_bytes())], links.collect()].concat().concat()
+        };
+        elements.iter().flat_map(|j| component(*j)).collect()
+    }
+
+    fn held<H: Hash>(&self, at: u64) -> Held {
+        let mut held = Held { count: at, digest: self.digest::<H>(at), ..held_start::<H>(LOG) };
+        for row in (0..ROWS).filter(|row| in_use(at, *row)) {
+            held.rows[row] = self.digest::<H>(at - at % (2 << row));
+        }
+        held
+    }
+}
+
+/// The longest membership proof, broken: in the components of 1, 2 and 4; in the d of that of the
+/// middle, in the link hopped there, which is its last but one, and in its last; in the next one; and
+/// in the last component.
+fn print_broken_ends<H: Hash>(hash: &str, log: &Longest) {
+    let proof = log.proof::<H>(&membership(1, LIMIT).expect("a path"));
+    let last = log.digest::<H>(LIMIT);
+    let check = |proof: &[u8]| check_membership::<H>(&1u64.to_be_bytes(), 1, LIMIT, &last, proof);
+    check(&proof).expect("a whole proof");
+    let alone = [0, 1, 2, 527, 558, 559, 560, 1_085, 1_086].map(|part| vec![part]);
+    for parts in alone.into_iter().chain([vec![3, 558]]) {
+        let refused = check(&turned(&proof, &parts)).expect_err("a broken proof");
+        print_refusal(&format!("{}.ends.membership(1,{})", hash, LIMIT), &parts, refused);
+    }
+    let proof = log.proof::<H>(&[MIDDLE]);
+    let (before, digest) = (log.held::<H>(MIDDLE - 1), log.digest::<H>(MIDDLE));
+    for parts in [&[0][..], &[1], &[2], &[32], &[31, 32]] {
+        let checked = check_advancement::<H>(&before, MIDDLE, &digest, &turned(&proof, parts));
+        let name = format!("{}.ends.advancement({},{})", hash, MIDDLE - 1, MIDDLE);
+        print_refusal(&name, parts, checked.expect_err("a broken proof"));
+    }
+}
+
+/// The last digest, and the file of the state to which the way from the start leads.
+fn print_ends<H: Hash>(hash: &str) {
+    let log = Longest::new::<H>();
+    let last = log.digest::<H>(LIMIT);
+    print(&format!("{}.ends.T({})", hash, LIMIT), &last);
+    let proof = log.proof::<H>(&advancement(0, LIMIT).expect("a path"));
+    let start = held_start::<H>(LOG);
+    let (_, held) = check_advancement::<H>(&start, LIMIT, &last, &proof).expect("a whole proof");
+    print(&format!("{}.ends.file({})", hash, LIMIT), &file_of(&held));
+    print_broken_ends::<H>(hash, &log);
+}
+
 fn main() {
     for (j, entry) in (1..).zip(entries()) {
         print(&format!("entry({})", j), &entry);
@@ -167,4 +274,7 @@ fn main() {
     print_broken::<Sha256>("sha256");
     print_van::<Xor>("standin");
     print_van::<Sha256>("sha256");
+    print_lengths();
+    print_ends::<Xor>("standin");
+    print_ends::<Sha256>("sha256");
 }

@@ -54,7 +54,7 @@
  *   store       16 bytes: "LOT", version 1 (2), three zero bytes, log number (8);
  *               then records of 65 bytes: d (32), T (32), state byte (255 open, 1 closed;
  *               any other, 0 too, is damage)
- *   held state  688 bytes: log number (8), count (8), digest (32), 20 rows of 32 bytes
+ *   held state  1,072 bytes: log number (8), count (8), digest (32), 32 rows of 32 bytes
  *   held file   53 bytes: "HLD", version 1 (2), log number (8), count (8), digest (32);
  *               then the rows in use, 32 bytes each, lowest level first: row l is in use if bit l
  *               of the count is 1, whatever it holds
@@ -88,18 +88,14 @@ extern "C" {
 #endif
 
 #define LOT_DIGEST_BYTES 32
-#define LOT_HELD_BYTES 688
 #define LOT_ANSWER_NUMBERS 3
 #define LOT_HEADER_BYTES 16
 #define LOT_RECORD_BYTES 65
 #define LOT_ENTRY_MOST 4096       /* the longest entry, in bytes */
 #define LOT_HASH_MOST 65536       /* the longest message of lot_hash, in bytes */
-#define LOT_ELEMENTS_MOST 1048575 /* the most elements of a log */
-#define LOT_PROOF_MOST 14048      /* the longest proof, in bytes */
 #define LOT_DISPUTE_LEAST 4097    /* the least room of a dispute's buffer, in bytes */
 #define LOT_APPEND_WHOLE 65       /* the `stop` of an append that is not cut */
 #define LOT_HELD_FILE_LEAST 53    /* the shortest held file, that of count 0, in bytes */
-#define LOT_HELD_FILE_MOST 693    /* the longest held file, in bytes */
 #define LOT_HANDLES_MOST 1000     /* the most handles of a list */
 #define LOT_TRIE_PROOF_MOST 8192  /* the longest trie proof, and every one of presence, in bytes */
 #define LOT_CLASH_LEAST 65        /* the least room of a clash's buffer, in bytes */
@@ -108,6 +104,14 @@ extern "C" {
 #define LOT_SEAL_KEY_BYTES 32
 #define LOT_SEAL_CLOSING 1u       /* the type of the entry that closes a van's log */
 #define LOT_SEAL_STACK_MOST 4096  /* the most stack that lot_seal_add takes, in bytes; measured */
+
+/* The levels of a log, from which the numbers below follow: the most elements, the bytes of a held
+   state with its row for each level, and the most bytes of a proof and of a held file. */
+#define LOT_LEVELS 32
+#define LOT_ELEMENTS_MOST ((UINT64_C(1) << LOT_LEVELS) - 1)                /* 4,294,967,295 */
+#define LOT_HELD_BYTES (48 + 32 * LOT_LEVELS)                              /* 1,072 */
+#define LOT_PROOF_MOST (32 * (LOT_LEVELS * LOT_LEVELS + 2 * LOT_LEVELS - 1)) /* 34,784 */
+#define LOT_HELD_FILE_MOST (LOT_HELD_FILE_LEAST + 32 * LOT_LEVELS)         /* 1,077 */
 
 /* The bytes of a van's entry with so many of data. */
 #define LOT_SEALED_BYTES(data_length) ((size_t)38 + (size_t)(data_length))
@@ -176,10 +180,10 @@ uint64_t lot_differing(const uint8_t *first, size_t first_length, const uint8_t 
                        size_t second_length, uint64_t i, uint64_t n, uint64_t answer[3]);
 
 /* The held state that the store gives at a length. Refusals: 1, 4. */
-uint64_t lot_held_at(const uint8_t *store, size_t store_length, uint64_t at, uint8_t held[688]);
+uint64_t lot_held_at(const uint8_t *store, size_t store_length, uint64_t at, uint8_t held[LOT_HELD_BYTES]);
 
 /* The held state at length 0 of a log: what a practice begins with. Never refuses. */
-uint64_t lot_held_start(uint64_t log, uint8_t held[688]);
+uint64_t lot_held_start(uint64_t log, uint8_t held[LOT_HELD_BYTES]);
 
 /* Builds the advancement proof from i to n at the start of `out`; what lies after it stays. Refusals:
    1, 4, 6. Answer: the proof's length. */
@@ -191,17 +195,17 @@ uint64_t lot_build_advancement(const uint8_t *store, size_t store_length, uint64
    with 9 and 10 where the proof broke: the element that the bad hop reaches, and with 9 the row that
    differs, the lowest if several do, with 10 the level hopped. Both are 0 with any other number. Row c
    differs from the link of level c + 1 in that element's component; the number given is c. */
-uint64_t lot_check_advancement(uint8_t held[688], uint64_t n, const uint8_t digest[32],
+uint64_t lot_check_advancement(uint8_t held[LOT_HELD_BYTES], uint64_t n, const uint8_t digest[32],
                                const uint8_t *proof, size_t proof_length, uint64_t answer[3]);
 
 /* Writes a held state as a held file at the start of `out`; what lies after it stays. One state has one
    file. Refusals: 2, 6. Answer: the file's length, 53 bytes and 32 for each 1 bit of the count. */
-uint64_t lot_held_write(const uint8_t held[688], uint8_t *out, size_t out_length, uint64_t answer[3]);
+uint64_t lot_held_write(const uint8_t held[LOT_HELD_BYTES], uint8_t *out, size_t out_length, uint64_t answer[3]);
 
 /* Reads a held file: `held` becomes its state, and rows that are not in use become zero. A file that
    reads gives itself back when written. At a count over 0 the digest and the rows are not judged.
    Refusals: 18, 19, 20, 21, 22, 2, in this order. */
-uint64_t lot_held_read(const uint8_t *file, size_t file_length, uint8_t held[688]);
+uint64_t lot_held_read(const uint8_t *file, size_t file_length, uint8_t held[LOT_HELD_BYTES]);
 
 /* The handle of a key. Refusals: 3. */
 uint64_t lot_handle(const uint8_t *key, size_t key_length, uint8_t handle[32]);

@@ -296,7 +296,7 @@ fn length_of(file: &File) -> io::Result<usize> {
 /// Room past the most elements of a log could never be used.
 fn check_room(room: usize) -> io::Result<()> {
     if room > ELEMENTS_MOST {
-        let message = "a log has at most 1,048,575 elements";
+        let message = format!("a log has at most {} elements", ELEMENTS_MOST);
         return Err(io::Error::new(io::ErrorKind::InvalidInput, message));
     }
     Ok(())

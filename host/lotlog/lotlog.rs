@@ -18,13 +18,16 @@ pub mod file;
 pub const HEADER_BYTES: usize = 16;
 pub const RECORD_BYTES: usize = 65;
 
-/// The most elements of a log, and the most bytes of a proof.
-pub const ELEMENTS_MOST: usize = 1_048_575;
-pub const PROOF_MOST: usize = 14_048;
+/// The levels of a log; the most elements, the most bytes of a proof and the bytes of a held state,
+/// which has a row for each level, follow from it: 4,294,967,295, 34,784 and 1,072.
+pub const LEVELS: usize = 32;
+pub const ELEMENTS_MOST: usize = (1 << LEVELS) - 1;
+pub const PROOF_MOST: usize = 32 * (LEVELS * LEVELS + 2 * LEVELS - 1);
+pub const HELD_BYTES: usize = 48 + 32 * LEVELS;
 
-/// The least bytes of a held file, and the most.
+/// The least bytes of a held file, and the most: 1,077, with a row for each level.
 pub const HELD_FILE_LEAST: usize = 53;
-pub const HELD_FILE_MOST: usize = 693;
+pub const HELD_FILE_MOST: usize = HELD_FILE_LEAST + 32 * LEVELS;
 
 /// The most handles of a list, the most bytes of a trie proof, and the least room of a clash's
 /// buffer.
@@ -91,8 +94,8 @@ pub fn meaning(number: u64) -> &'static str {
 /// A digest: 32 bytes.
 pub type Digest = [u8; 32];
 
-/// A held state: log number, count (8 bytes each, big-endian), digest, 20 rows.
-pub type Held = [u8; 688];
+/// A held state: log number, count (8 bytes each, big-endian), digest, a row for each level.
+pub type Held = [u8; HELD_BYTES];
 
 /// The number of a call and the numbers beside it.
 #[must_use]

@@ -7,10 +7,10 @@ use crate::proof::{components, link};
 use crate::refusal::{refuse, refuse_at, refuse_with, Answer, Place, BAD_STATE};
 use crate::refusal::{LAST_DIGEST, LINK, ROW};
 use crate::store::Log;
-use crate::{Digest, LIMIT};
+use crate::{Digest, LEVELS, LIMIT};
 
-/// "twenty rows of 32 bytes, one for each level"
-pub const ROWS: usize = 20;
+/// A basis has rows "of 32 bytes, one for each level". 02, A7: "Held states get thirty-two rows".
+pub const ROWS: usize = LEVELS as usize;
 
 /// "Log number, count n, T(n), and a basis".
 #[derive(Debug, Clone, PartialEq, Eq)]

@@ -40,7 +40,8 @@ pub const TOO_LONG: u64 = 3;
 /// "membership: i = 0, i > n, or n over the limit; advancement: n < i or n over the limit; building
 /// either, or reading a digest or a held state: number above the count"
 pub const NO_SUCH_NUMBER: u64 = 4;
-/// "no open record, or count 1,048,575"
+/// "no open record", or the count at the limit: "Refusals 2, 4 and 5 read from the new limit", says
+/// document 02, A7
 pub const NO_ROOM: u64 = 5;
 /// "lent output too short"; and A6's key: "overwritten in 32 lent bytes (else 6)"
 pub const OUTPUT_SHORT: u64 = 6;
@@ -72,7 +73,7 @@ pub const FILE_SHORT: u64 = 18;
 pub const FILE_MARK: u64 = 19;
 /// "wrong version"
 pub const FILE_VERSION: u64 = 20;
-/// "count over the limit"
+/// "count over the limit", which is the one of A7 here too: A7 raises it and keeps no other
 pub const FILE_COUNT: u64 = 21;
 /// "wrong length"
 pub const FILE_LENGTH: u64 = 22;

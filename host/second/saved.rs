@@ -2,7 +2,8 @@
 //!
 //! Words in quotation marks are A4's. Reading takes the parts of the head first and then asks for
 //! all causes of a refusal at once, of which the first in A4's order decides. A row is in use by
-//! the bit of the count and never by what it holds: a row in use may be 32 zero bytes.
+//! the bit of the count and never by what it holds: a row in use may be 32 zero bytes. So A7 moves
+//! no byte: "A file from A4 still reads, since it holds used rows only."
 
 use crate::hash::Hash;
 use crate::held::{in_order, in_use, Held, ROWS};
@@ -19,7 +20,7 @@ const VERSION: u16 = 1;
 /// The bytes before the rows. A file "under 53 bytes" is refused.
 pub const FILE_LEAST: usize = 53;
 
-/// The bytes of the longest file, which has all twenty rows.
+/// The bytes of the longest file, which has a row for each level.
 pub const FILE_MOST: usize = FILE_LEAST + 32 * ROWS;
 
 /// "only the rows in use, lowest level first"

@@ -69,11 +69,13 @@ fn the_bytes_of_the_start() {
 #[test]
 fn lengths() {
     let figures = [(0, 53), (1, 85), (2, 85), (3, 117), (12, 117), (300, 181), (1 << 19, 85)];
-    for (count, length) in figures.into_iter().chain([(LIMIT - 1, 661), (LIMIT, 693)]) {
+    let at_the_old_limit = [(1_048_574, 661), (1_048_575, 693), (1_048_576, 85)];
+    let at_the_limit = [(1 << 31, 85), (LIMIT - 1, 1_045), (LIMIT, 1_077)];
+    for (count, length) in figures.into_iter().chain(at_the_old_limit).chain(at_the_limit) {
         assert_eq!(file_length(count), length);
         assert_eq!(written::<Sha256>(&made_up(count)).len(), length);
     }
-    assert_eq!((FILE_LEAST, FILE_MOST), (53, 693));
+    assert_eq!((FILE_LEAST, FILE_MOST), (53, 1_077));
 }
 
 // ---- both ways
@@ -92,7 +94,7 @@ fn a_state_is_read_as_it_was_written() {
         goes_both_ways::<Sha256>(&held_at::<Sha256>(&store, at).unwrap());
         goes_both_ways::<Xor>(&held_at::<Xor>(&other, at).unwrap());
     }
-    for count in (0..ROWS).map(|level| 1 << level).chain([0xA_AAAA, 0x5_5555, LIMIT]) {
+    for count in (0..ROWS).map(|level| 1 << level).chain([0xAAAA_AAAA, 0x5555_5555, LIMIT]) {
         goes_both_ways::<Sha256>(&made_up(count));
     }
 }
@@ -169,14 +171,23 @@ fn marks_and_versions() {
 fn counts() {
     let file = written::<Sha256>(&made_up(LIMIT));
     assert!(read::<Sha256>(&file).is_ok());
-    for over in [LIMIT + 1, 1 << 32, LIMIT | 1 << 40, u64::MAX] {
+    for over in (32..64).flat_map(|bit| [1 << bit, LIMIT | 1 << bit]).chain([u64::MAX]) {
         assert_eq!(read_with(&file, 13, &over.to_be_bytes()), refused(21));
     }
     assert_eq!(read_with(&file, 13, &(LIMIT - 1).to_be_bytes()), refused(22));
+}
+
+/// "lowest level first": the two rows of a file go to those that its count says.
+#[test]
+fn rows_of_another_count() {
     let file = written::<Sha256>(&made_up(5));
-    let read = read_with(&file, 13, &0x8_0001u64.to_be_bytes()).unwrap();
-    assert_eq!((read.rows[0], read.rows[19]), (made_up(5).rows[0], made_up(5).rows[2]));
-    assert_eq!(read.rows[1..19], [[0; 32]; 18]);
+    for top in [1, 19, 20, 31] {
+        let read = read_with(&file, 13, &(1u64 | 1 << top).to_be_bytes()).unwrap();
+        let mut rows = [[0; 32]; ROWS];
+        rows[0] = made_up(5).rows[0];
+        rows[top] = made_up(5).rows[2];
+        assert_eq!(read.rows, rows);
+    }
 }
 
 #[test]
@@ -220,6 +231,7 @@ fn the_order_of_refusals() {
 fn a_state_that_is_not_in_order_has_no_file() {
     let mut broken = vec![
         Held { count: LIMIT + 1, ..made_up(0) },
+        Held { count: 5 | 1 << 32, ..made_up(5) },
         Held { count: 5 | 1 << 40, ..made_up(5) },
         Held { count: u64::MAX, ..made_up(LIMIT) },
         Held { log: 8, ..made_up(0) },

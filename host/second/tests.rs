@@ -2,9 +2,9 @@
 
 use crate::dispute::{differing, dispute, Found, Side, BUFFER_LEAST};
 use crate::hash::{hash, Hash, HashState, Sha256, Xor, HASH_MOST};
-use crate::held::{check_advancement, held_at, held_start, Held};
+use crate::held::{check_advancement, held_at, held_start, Held, ROWS};
 use crate::message::{element_digest, entry_digest, start_digest};
-use crate::path::{advancement, component_length, membership, proof_length, trailing_zeros};
+use crate::path::{advancement, membership, proof_length, trailing_zeros};
 use crate::program::{line, INPUT_MOST};
 use crate::proof::{build_advancement, build_membership, check_membership};
 use crate::refusal::{Place, Refusal, NOWHERE};
@@ -157,15 +157,6 @@ fn figures_of_advancement_paths() {
 }
 
 #[test]
-fn the_longest_proof() {
-    let longest = membership(1, LIMIT).unwrap();
-    assert_eq!((longest.len() - 1, longest.len(), proof_length(&longest)), (38, 39, 14_048));
-    assert_eq!(membership(1, LIMIT + 1), refused(4, 0));
-    assert_eq!(advancement(1, LIMIT + 1), refused(4, 0));
-    assert_eq!(9 + component_length(1 << 19), 681);
-}
-
-#[test]
 fn advance_from_6_to_8_keeps_row_3_alone() {
     let store = log7::<Sha256>(8);
     let t = |at| digest_at::<Sha256>(&store, at).unwrap();
@@ -173,7 +164,7 @@ fn advance_from_6_to_8_keeps_row_3_alone() {
     assert_eq!((six.rows[1], six.rows[2]), (t(4), t(0)));
     let proof = advancement_proof::<Sha256>(&store, 6, 8);
     let (hops, eight) = check_advancement::<Sha256>(&six, 8, &t(8), &proof).unwrap();
-    let mut rows = [[0; 32]; 20];
+    let mut rows = [[0; 32]; ROWS];
     rows[3] = t(0);
     assert_eq!((hops, eight), (1, Held { log: 7, count: 8, digest: t(8), rows }));
 }

@@ -3,9 +3,9 @@
 
 use std::panic;
 
-use compare::both::Both;
+use compare::both::{Both, BothAdvance, BothMember};
 use compare::faulty::{self, Faulty};
-use compare::{advance, hash, member, places, saved, sealed, store, trie, whole, Scale};
+use compare::{advance, ends, hash, member, places, saved, sealed, store, trie, whole, Scale};
 use lotlog::{Answer, Place};
 
 const SEED: u64 = 4;
@@ -15,8 +15,8 @@ const CALLS: u64 = 20_000;
 macro_rules! unnoticed {
     ($($group:ident: $($fault:ident)*;)*) => {
         [$($((stringify!($fault), noticed(|| {
-            let mut both = Both::<Faulty<{ faulty::$fault }>>::default();
-            $group::run(&mut both, Scale::Small)
+            faulty::set(faulty::$fault);
+            $group::run(&mut Both::<Faulty>::default(), Scale::Small)
         })),)*)*]
         .iter().filter(|(_, noticed)| !noticed).map(|(fault, _)| *fault).collect::<Vec<_>>()
     };
@@ -42,19 +42,33 @@ fn words() {
 }
 
 /// A copy with no fault agrees with the second program in every group.
-fn agreed() -> Both<Faulty<{ faulty::NO_FAULT }>> {
+fn agreed() -> Both<Faulty> {
+    faulty::set(faulty::NO_FAULT);
     let mut both = Both::default();
     hash::run(&mut both, Scale::Small);
     store::run(&mut both, Scale::Small);
     member::run(&mut both, Scale::Small);
     advance::run(&mut both, Scale::Small);
     saved::run(&mut both, Scale::Small);
+    ends::run(&mut both, Scale::Small);
     trie::run(&mut both, Scale::Small);
     sealed::run(&mut both, Scale::Small);
     whole::run(&mut both, SEED, CALLS);
     told_of_members::run(&mut both, Scale::Small);
     told_of_steps::run(&mut both, Scale::Small);
+    told_of_ends::run(&mut both, Scale::Small);
+    written_out();
     both
+}
+
+/// So does the one whose checkers are written out.
+fn written_out() {
+    faulty::set(faulty::NO_FAULT_AT_THE_ENDS);
+    let mut both = Both::<Faulty>::default();
+    member::run(&mut both, Scale::Small);
+    advance::run(&mut both, Scale::Small);
+    saved::run(&mut both, Scale::Small);
+    ends::run(&mut both, Scale::Small);
 }
 
 /// The faults of proofs, and of where they broke, that are not noticed.
@@ -111,13 +125,37 @@ fn unnoticed_of_sealed() -> Vec<&'static str> {
     [unnoticed_of_sealed!(sealed), unnoticed_of_sealed!(told_of_seals)].concat()
 }
 
+/// Runs a group on each fault of the limit, the levels and the rows, and on those of files that have
+/// to do with these.
+macro_rules! unnoticed_of_ends {
+    ($group:ident) => {
+        unnoticed! {
+            $group: KEEPS_THE_OLD_LIMIT LIMIT_ONE_LESS LIMIT_ONE_MORE OLD_LIMIT_OF_STATES
+                OLD_LIMIT_OF_FILES STATE_ONE_MORE FILE_ONE_MORE SIGNED_LENGTHS POSITION_OF_32_BITS
+                LENGTH_OF_32_BITS STATE_COUNT_OF_32_BITS READS_AT_32_BITS BUILDS_IN_32_BITS
+                DISPUTES_IN_32_BITS DIFFERING_IN_32_BITS HOPS_UP_TO_LEVEL_19 HOPS_UP_TO_LEVEL_29
+                HOPS_UP_TO_LEVEL_30 HOP_SUM_OF_32_BITS LINKS_UP_TO_LEVEL_19 LINKS_UP_TO_LEVEL_30
+                MESSAGE_OF_681 MESSAGE_OF_1_033 ELEMENT_OF_24_BITS PROOF_OF_14_048 TELLS_38_HOPS
+                SIGNED_ELEMENT KEEPS_TWENTY_ROWS KEEPS_31_ROWS TWENTY_ROWS_JUDGED ROW_20_NOT_JUDGED
+                ROW_31_NOT_JUDGED TWENTY_ROWS_COMPARED ROW_30_NOT_COMPARED CARRIES_TO_ROW_20
+                FILE_OF_TWENTY_ROWS LAST_ROW_LEFT_OUT WRITES_ANY_LAST_ROW COUNT_OF_32_BITS LIMIT_IS_OVER
+                NO_LIMIT_OF_THE_COUNT LENGTH_BEFORE_THE_COUNT;
+        }
+    };
+}
+
+/// The faults of the limit, the levels and the rows that are not noticed.
+fn unnoticed_of_ends() -> Vec<&'static str> {
+    [unnoticed_of_ends!(ends), unnoticed_of_ends!(told_of_ends)].concat()
+}
+
 /// The other faults that are not noticed.
 fn unnoticed_of_others() -> Vec<&'static str> {
     unnoticed! {
         hash: PADDING_AT_55_BYTES HASHES_TOO_MUCH MISSES_A_LAST_BIT;
         store: STARTS_PAST_CAPACITY TAKES_ANY_STATE_BYTE CLOSES_TOO_EARLY STOP_WRAPS
             COUNT_BESIDE_A_REFUSAL SKIPS_EMPTY_ENTRIES NO_DIGEST_AT_0 AUDIT_NAMES_THE_LAST
-            OPEN_IS_ZERO ZERO_IS_OPEN_TOO STARTS_WITH_ZEROS;
+            OPEN_IS_ZERO ZERO_IS_OPEN_TOO STARTS_WITH_ZEROS KEEPS_THE_OLD_CAPACITY;
         saved: ROWS_HIGHEST_FIRST ALL_ROWS_WRITTEN ROW_BY_ITS_CONTENTS LAST_ROW_LEFT_OUT
             COUNT_LITTLE_ENDIAN CLEARS_BEHIND_THE_FILE WRITES_ANY_STATE WRITES_OVER_THE_LIMIT
             WRITES_ANY_LAST_ROW WRITES_ANY_START ROOM_BEFORE_THE_STATE LENGTH_BESIDE_6
@@ -126,7 +164,9 @@ fn unnoticed_of_others() -> Vec<&'static str> {
             MISSING_ROWS_ARE_ZERO READS_ANY_START NEEDS_54_BYTES MARK_BEFORE_53_BYTES
             VERSION_BEFORE_THE_MARK COUNT_BEFORE_THE_VERSION LIMIT_IS_OVER LENGTH_BEFORE_53_BYTES
             NO_LIMIT_OF_THE_COUNT LENGTH_BEFORE_THE_COUNT START_BEFORE_THE_LENGTH
-            REFUSES_A_DIGEST_OF_ZEROS REFUSES_A_ROW_OF_ZEROS REFUSED_FILE_CLEARS KEEPS_FREE_ROWS;
+            REFUSES_A_DIGEST_OF_ZEROS REFUSES_A_ROW_OF_ZEROS REFUSED_FILE_CLEARS KEEPS_FREE_ROWS
+            OLD_LIMIT_OF_FILES FILE_ONE_MORE STATE_COUNT_OF_32_BITS FILE_OF_TWENTY_ROWS
+            ROW_20_NOT_JUDGED;
         trie: HASHES_A_LONG_KEY TAKES_A_REPEATED_HANDLE SORTS_THE_LIST TAKES_1001_HANDLES
             TAKES_A_BROKEN_HANDLE ROOM_BEFORE_THE_KIND LIST_BEFORE_THE_KEY BUILDS_A_FALSE_ABSENCE
             SIBLINGS_FROM_THE_LEAF ABSENCE_ONE_TOO_LONG WRITES_WHAT_FITS LAST_BIT_FIRST
@@ -135,7 +175,8 @@ fn unnoticed_of_others() -> Vec<&'static str> {
             PROOFS_BEFORE_THE_BUFFERS;
         everything: PADDING_AT_55_BYTES CLOSES_TOO_EARLY IGNORES_A_TAIL NEVER_CHECKS_ROWS
             ROWS_HIGHEST_FIRST TAIL_OF_A_FILE_IGNORED TAKES_ANY_ROOT NAMES_THE_LINK_OF_A_ROW
-            OLD_KEY_KEPT NAMES_THE_ENTRY_AFTER HASHES_A_KEY_OF_64;
+            OLD_KEY_KEPT NAMES_THE_ENTRY_AFTER HASHES_A_KEY_OF_64 KEEPS_THE_OLD_LIMIT LIMIT_ONE_MORE
+            HOPS_UP_TO_LEVEL_19 KEEPS_TWENTY_ROWS;
     }
 }
 
@@ -143,7 +184,9 @@ fn main() {
     words();
     let Both { calls, told, .. } = agreed();
     panic::set_hook(Box::new(|_| ()));
-    let unnoticed = [unnoticed_of_proofs(), unnoticed_of_sealed(), unnoticed_of_others()].concat();
+    let unnoticed =
+        [unnoticed_of_proofs(), unnoticed_of_ends(), unnoticed_of_sealed(), unnoticed_of_others()]
+            .concat();
     if !unnoticed.is_empty() {
         eprintln!("faults that were not noticed: {}", unnoticed.join(", "));
         std::process::exit(1);
@@ -175,9 +218,9 @@ mod told_of_members {
     use compare::member::Claim;
 
     pub fn run<C: MemberCalls>(_: &mut Both<C>, scale: Scale) {
-        let mut alone = Both::<C, C>::default();
-        places::run::<Claim, C, C>(&mut alone, &sound(300, 0), scale);
-        places::disputes(&mut alone, scale);
+        let alone: &mut dyn BothMember = &mut Both::<C, C>::default();
+        places::run::<Claim, _>(alone, &sound(300, 0), scale);
+        places::disputes(alone, scale);
     }
 }
 
@@ -189,8 +232,21 @@ mod told_of_steps {
     use compare::logs::sound;
 
     pub fn run<C: AdvanceCalls>(_: &mut Both<C>, scale: Scale) {
-        let mut alone = Both::<C, C>::default();
-        places::run::<Step, C, C>(&mut alone, &sound(300, 0), scale);
+        let alone: &mut dyn BothAdvance = &mut Both::<C, C>::default();
+        places::run::<Step, _>(alone, &sound(300, 0), scale);
+    }
+}
+
+/// The same of all that has to do with the limit.
+mod told_of_ends {
+    use super::*;
+    use compare::calls::{AdvanceCalls, MemberCalls, SavedCalls, StoreCalls};
+
+    pub fn run<C>(_: &mut Both<C>, scale: Scale)
+    where
+        C: StoreCalls + MemberCalls + AdvanceCalls + SavedCalls,
+    {
+        ends::run(&mut Both::<C, C>::default(), scale);
     }
 }
 

@@ -5,7 +5,7 @@ use std::fs::{self, File, OpenOptions};
 use std::io::{self, ErrorKind, Read, Write};
 use std::path::{Path, PathBuf};
 
-use super::super::{held_read, held_write, Answer, Held, HELD_FILE_MOST};
+use super::super::{held_read, held_write, Answer, Held, HELD_BYTES, HELD_FILE_MOST};
 use super::{done, place, seated, Error};
 
 /// Saves what a practice holds, and returns when it is safe on the disk. Its file is made beside the
@@ -29,7 +29,7 @@ pub fn save_held(path: &Path, held: &Held) -> Result<(), Error> {
 #[inline]
 pub fn load_held(path: &Path) -> Result<Held, Error> {
     let bytes = first_bytes(path)?;
-    let mut held = [0; 688];
+    let mut held = [0; HELD_BYTES];
     done(Answer { number: held_read(&bytes, &mut held), beside: [0; 3] })?;
     Ok(held)
 }
