@@ -3,7 +3,7 @@
 //! "01's figures for 1,048,575 and 1,048,576 move to the new ends", where no store can be; so the
 //! logs are made up (`made`). All answers that the path alone can tell are told beforehand.
 
-use lotlog::{Answer, Held, Side, PROOF_MOST};
+use lotlog::{Answer, Held, Side, ELEMENTS_MOST, HELD_FILE_MOST, PROOF_MOST};
 use second::dispute::BUFFER_LEAST;
 use second::held::{self, in_use, ROWS};
 use second::saved::{file_of, FILE_LEAST, FILE_MOST};
@@ -94,9 +94,11 @@ const ENDS: [u64; 13] = [
 
 pub fn run(both: &mut dyn BothEnds, scale: Scale) {
     let mut random = Random::new(SEED);
+    constants();
     lengths_of_a_store(both);
     ENDS.iter().for_each(|count| states(both, *count, &mut random));
     over_the_limit(both, &mut random);
+    past_the_limit(both, &mut random);
     figures::<Claim, _>(both, &CLAIMS, scale, &mut random);
     figures::<Step, _>(both, &STEPS, scale, &mut random);
     walk(both, &ENDS, &mut random);
@@ -111,6 +113,13 @@ pub fn run(both: &mut dyn BothEnds, scale: Scale) {
             steps(both, n, &mut random);
         }
     }
+}
+
+/// What the wrapper tells its callers: the limit, the levels, the longest proof and the longest file.
+fn constants() {
+    let (_, limit, _, longest) = CLAIMS[0];
+    assert_eq!((ELEMENTS_MOST as u64, lotlog::LEVELS), (limit, ROWS));
+    assert_eq!((PROOF_MOST, HELD_FILE_MOST), (longest, FILE_MOST));
 }
 
 /// Numbers over the limit that have something to do with one up to it.
@@ -198,6 +207,23 @@ fn over_the_limit<B: BothEnds + ?Sized>(both: &mut B, random: &mut Random) {
             }
         }
         refuse_state(both, &held::Held { count: LIMIT + 1 + low, ..state });
+    }
+}
+
+/// Proofs of lengths over the limit with which all else is in order. "Length 1,048,576: 4", says 01,
+/// which is 4,294,967,296 now.
+fn past_the_limit<B: BothEnds + ?Sized>(both: &mut B, random: &mut Random) {
+    let next = LIMIT + 1;
+    for n in [next, next + 1, next + OLD_LIMIT] {
+        let log = Made::between(&[0, 1, OLD_LIMIT, MIDDLE, LIMIT, next, n], random.next());
+        for i in [1, OLD_LIMIT, MIDDLE, LIMIT, next] {
+            let checked = (&log.claim(i, n), &Way::new(i, n, false));
+            places::hold(both, &log, checked, refused(4), "the limit");
+        }
+        for i in [0, 1, OLD_LIMIT, MIDDLE, LIMIT] {
+            let checked = (&log.step(i, n), &Way::new(i, n, true));
+            places::hold(both, &log, checked, refused(4), "the limit");
+        }
     }
 }
 

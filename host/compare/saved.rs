@@ -510,9 +510,9 @@ fn old_file(line: &str) -> Old {
 fn files_from_before(both: &mut dyn BothKept, store: &[u8]) {
     let log = read(store);
     let lines = FROM_BEFORE.lines().filter(|line| !line.is_empty() && !line.starts_with('#'));
-    let old: Vec<Old> = lines.map(old_file).filter(|old| old.count <= log.count).collect();
+    let old: Vec<Old> = lines.map(old_file).collect();
     assert!(old.iter().any(|old| old.count == 0) && old.iter().any(|old| old.count > 0));
-    for old in old {
+    for old in old.into_iter().filter(|old| old.count <= log.count) {
         let state = match old.log {
             LOG => held_of::<Sha256>(&log, old.count),
             other => held_start::<Sha256>(other),

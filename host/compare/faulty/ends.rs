@@ -25,6 +25,14 @@ fn link_of(component: &[u8], level: usize) -> &[u8] {
     component.get(32 * (level + 1)..32 * (level + 2)).unwrap_or(&[])
 }
 
+/// What has a limit: the length of a claim or of a step, and the count of a state or of a file.
+enum Of {
+    Claim,
+    Step,
+    State,
+    File,
+}
+
 /// A hop that is found bad: 9 or 10, the element reached, and the row or the level.
 type Bad = [u64; 3];
 
@@ -33,24 +41,17 @@ impl Copy {
         faults.contains(&self.fault)
     }
 
-    /// The highest length that is taken.
-    fn limit(&self) -> u64 {
-        match self.fault {
-            KEEPS_THE_OLD_LIMIT => OLD_LIMIT,
-            LIMIT_ONE_LESS => LIMIT - 1,
-            LIMIT_ONE_MORE => LIMIT + 1,
-            SIGNED_LENGTHS => LIMIT >> 1,
+    /// The highest number that is taken for one of these.
+    fn limit(&self, of: Of) -> u64 {
+        match (self.fault, of) {
+            (KEEPS_THE_OLD_LIMIT, _) => OLD_LIMIT,
+            (OLD_LIMIT_OF_STATES, Of::State) | (OLD_LIMIT_OF_FILES, Of::File) => OLD_LIMIT,
+            (LIMIT_ONE_LESS, _) => LIMIT - 1,
+            (LIMIT_ONE_MORE, _) => LIMIT + 1,
+            (CLAIM_ONE_MORE, Of::Claim) | (STEP_ONE_MORE, Of::Step) => LIMIT + 1,
+            (STATE_ONE_MORE, Of::State) | (FILE_ONE_MORE, Of::File) => LIMIT + 1,
+            (SIGNED_LENGTHS, Of::Claim | Of::Step) => LIMIT >> 1,
             _ => LIMIT,
-        }
-    }
-
-    /// The highest count of a state, and of a file.
-    fn count_limit(&self, of_a_file: bool) -> u64 {
-        match (self.fault, of_a_file) {
-            (OLD_LIMIT_OF_STATES, false) | (OLD_LIMIT_OF_FILES, true) => OLD_LIMIT,
-            (STATE_ONE_MORE, false) | (FILE_ONE_MORE, true) => LIMIT + 1,
-            (SIGNED_LENGTHS, _) => LIMIT,
-            _ => self.limit(),
         }
     }
 
@@ -60,7 +61,7 @@ impl Copy {
             HOPS_UP_TO_LEVEL_19 => 19,
             HOPS_UP_TO_LEVEL_29 => 29,
             HOPS_UP_TO_LEVEL_30 => 30,
-            LIMIT_ONE_MORE => 32,
+            LIMIT_ONE_MORE | CLAIM_ONE_MORE | STEP_ONE_MORE => 32,
             _ => 31,
         };
         let reached = |level: u32| match self.fault {
@@ -151,7 +152,7 @@ impl Copy {
         if entry.len() > ENTRY_MOST {
             return refused(3);
         }
-        if i == 0 || i > n || n > self.limit() {
+        if i == 0 || i > n || n > self.limit(Of::Claim) {
             return refused(4);
         }
         let elements = self.path(i, n);
@@ -182,7 +183,7 @@ impl Copy {
             _ => true,
         };
         let free = (0..ROWS).filter(|row| !held::in_use(state.count, *row));
-        state.count <= self.count_limit(false)
+        state.count <= self.limit(Of::State)
             && free.filter(|row| judged(*row)).all(|row| state.rows[row] == [0; 32])
             && (state.count > 0 || state.digest == message::start_digest::<Sha256>(state.log))
     }
@@ -249,7 +250,7 @@ impl Copy {
         if !self.in_order(&state) {
             return refused(2);
         }
-        if n < state.count || n > self.limit() {
+        if n < state.count || n > self.limit(Of::Step) {
             return refused(4);
         }
         let elements = self.path(state.count, n);
@@ -295,7 +296,7 @@ impl Copy {
             return number;
         }
         let count = u64::from_be_bytes(file[13..21].try_into().expect("8 bytes"));
-        if count > self.count_limit(true) {
+        if count > self.limit(Of::File) {
             return 21;
         }
         let counted = if self.fault == FILE_OF_TWENTY_ROWS { count & OLD_LIMIT } else { count };
