@@ -1,5 +1,5 @@
 -- MORE LEVELS MOVE NOTHING BELOW THE LIMIT THAT WAS: of two versions that differ in their levels alone, the checks say the same of every length up to the lower
--- limit, and a state is in order as it was, with further rows that are free. So request A7 leaves every answer about a log of up to 1,048,575 lots as it stood.
+-- limit, and a state is in order as it was, with further rows that are free. So request A7 leaves what a practice was told of a log of up to 1,048,575 lots as it stood.
 use mathlib.Core.Path.{_≡_, refl, sym, ap, _∙_}
 use mathlib.Core.Logic.{_⊎_, inl, inr}
 use mathlib.Core.Bool.{Bool, true, false, cond, _&&_, _||_, true≢false}
