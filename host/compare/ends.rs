@@ -348,7 +348,9 @@ fn claims<B: BothEnds + ?Sized>(both: &mut B, n: u64, random: &mut Random) {
         places::hold(both, &log, (&claim, &way), refused(4), "the positions");
     }
     if random.once_in(4) {
-        claim.damaged(random).iter().for_each(|claim| drop(claim.check(both)));
+        for claim in claim.damaged(random) {
+            claim.check(both);
+        }
     }
     disputes(both, &claim, &way, random);
 }
@@ -425,7 +427,8 @@ fn steps<B: BothEnds + ?Sized>(both: &mut B, n: u64, random: &mut Random) {
         places::hold(both, &log, (&step.with_n(i - 1), &way), refused(4), "the length told");
     }
     if random.once_in(4) {
-        let damaged = [step.damaged_states(random), step.damaged_numbers(random)].concat();
-        damaged.iter().for_each(|step| drop(step.check(both)));
+        for step in [step.damaged_states(random), step.damaged_numbers(random)].concat() {
+            step.check(both);
+        }
     }
 }

@@ -7,7 +7,7 @@ use lotlog::{store_bytes, Answer, Digest, PROOF_MOST, WHOLE};
 
 // A program without cargo takes the wrapper in as a module; it calls but some of its functions.
 #[path = "../lotlog/lotlog.rs"]
-#[allow(dead_code)]
+#[allow(dead_code, unused_imports)]
 mod lotlog;
 
 /// Looks at a call's number: 0 is done, any other is a refusal, and lotlog.h says which.
