@@ -1,6 +1,6 @@
-//! A store in a file: made, opened, appended to durably, and grown; and what a practice holds in a
-//! file: saved and read ([`save_held`], [`load_held`]). docs/DURABILITY.md says what reaches the disk
-//! when, and why.
+//! A store in a file: made, opened, appended to durably, and grown; what a practice holds in a file:
+//! saved and read ([`save_held`], [`load_held`]); a van's log in one ([`seal_to`]); and any file that
+//! is replaced whole ([`put`]). docs/DURABILITY.md says what reaches the disk when, and why.
 //!
 //! One process at a time has the store open for writing, as a [`Writer`]; any number read beside it,
 //! each through a [`Reader`], which gives the store as it stood between two appends. Both go by
@@ -12,8 +12,7 @@
 
 use std::fmt;
 use std::fs::{self, File, OpenOptions};
-use std::io;
-use std::os::unix::fs::FileExt;
+use std::io::{self, Read};
 use std::path::{Path, PathBuf};
 
 use super::{store_bytes, Answer, ELEMENTS_MOST, HEADER_BYTES, RECORD_BYTES, WHOLE};
@@ -22,8 +21,12 @@ mod held;
 mod lock;
 mod map;
 mod place;
+mod van;
+mod whole;
 
-pub use held::{load_held, save_held};
+pub use held::{create_held, load_held, replace_held, save_held};
+pub use van::seal_to;
+pub use whole::{put, Before};
 
 use lock::{Lock, GATE, SEAT};
 use map::Map;
@@ -283,9 +286,24 @@ impl Reader {
         let file = File::open(&self.path)?;
         let _gate = Lock::shared(&file, GATE)?;
         file.sync_all()?;
-        let mut store = vec![0; length_of(&file)?];
-        file.read_exact_at(&mut store, 0)?;
-        Ok(store)
+        let length = length_of(&file)?;
+        read_all(&file, length)
+    }
+}
+
+/// All bytes of a file, or of what else can be read; how many they are need not be right. That the
+/// memory does not hold them is an error, of the kind `OutOfMemory`.
+pub fn read_all(mut from: impl Read, expected: usize) -> io::Result<Vec<u8>> {
+    const LEAST: usize = 4_096;
+    let mut bytes: Vec<u8> = vec![];
+    // one more than expected shows that this was all, and twice as many each time that it was not
+    let mut more = expected.saturating_add(1).max(LEAST);
+    loop {
+        bytes.try_reserve_exact(more).map_err(|_| io::Error::from(io::ErrorKind::OutOfMemory))?;
+        if (&mut from).take(more as u64).read_to_end(&mut bytes)? < more {
+            return Ok(bytes);
+        }
+        more = bytes.len();
     }
 }
 

@@ -1,0 +1,175 @@
+//! A van's log in a file, and its key in another. The entry reaches the disk before the key moves: a
+//! van that is cut off in between has an entry more than its key knows of, and the next call finds that
+//! out and moves the key.
+
+use std::fs::{self, File, OpenOptions};
+use std::io::{self, ErrorKind, Read};
+use std::os::unix::fs::FileExt;
+use std::path::Path;
+
+use super::super::{clear_stack, seal_add, Answer, Digest, SEALED_BESIDE};
+use super::{place, read_all, seated};
+
+/// The bytes of an entry's type and length, and the most bytes of its data.
+const HEAD: usize = 6;
+const DATA_MOST: usize = 4_096;
+
+/// The bytes of a key.
+const KEY: usize = 32;
+
+/// Seals an entry behind a van's log, which is made if it is not there, and overwrites the key, in its
+/// place in the file of 32 bytes, with the next one, or with zeros if the type is 1; returns when both
+/// are safe on the disk. Answers the entry's number, from 0. Refusals: 3, 6, 23, and before these 24
+/// with the number of an entry in the log whose length none can have; then nothing is sealed.
+///
+/// At every moment the log is the one before or the new one, perhaps with a part of the new entry
+/// behind it, which the next call drops; and with the next call the key is that of the log. That
+/// another process is sealing with this key is an error of the kind `WouldBlock`. After an error of the
+/// system the entry is sealed or it is not; in the log it is there whole or not at all.
+#[inline]
+pub fn seal_to(log: &Path, key: &Path, kind: u32, data: &[u8]) -> io::Result<Answer> {
+    let key_file = seated(key, OpenOptions::new().read(true).write(true))?;
+    let bytes = log_of(log)?;
+    let walked = match walk(bytes.as_deref().unwrap_or_default()) {
+        Ok(walked) => walked,
+        Err(entry) => return Ok(Answer { number: 24, beside: [entry, 0, 0] }),
+    };
+    let mut key = Key::of(&key_file)?;
+    if walked.last.map_or(false, |last| key.moves_over(last)) {
+        key.store(&key_file)?;
+    }
+    let mut chain = walked.chain;
+    let mut out = vec![0; data.len() + SEALED_BESIDE];
+    let answer = key.seal(&mut chain, kind, data, &mut out);
+    if answer.number == 0 {
+        put_behind(log, walked.whole, &out, bytes.is_none())?;
+        key.store(&key_file)?;
+        return Ok(Answer { number: 0, beside: [walked.entries, 0, 0] });
+    }
+    Ok(answer)
+}
+
+/// The log's bytes, if it is there.
+fn log_of(path: &Path) -> io::Result<Option<Vec<u8>>> {
+    match File::open(path) {
+        Err(error) if error.kind() == ErrorKind::NotFound => Ok(None),
+        file => read_all(file?, 0).map(Some),
+    }
+}
+
+/// An entry of a log, with the chain before it.
+#[derive(Clone, Copy)]
+struct Entry<'a> {
+    before: Digest,
+    kind: u32,
+    data: &'a [u8],
+    bytes: &'a [u8],
+}
+
+/// A log, read to its last whole entry.
+struct Walked<'a> {
+    entries: u64,
+    whole: usize,
+    last: Option<Entry<'a>>,
+    chain: Digest,
+}
+
+/// Reads a log; what it has behind its last whole entry is a part of one. Where an entry's length is
+/// over the most, the log is no van's, and the entry's number comes back.
+#[inline]
+fn walk(log: &[u8]) -> Result<Walked, u64> {
+    let mut walked = Walked { entries: 0, whole: 0, last: None, chain: [0; 32] };
+    // the library says what the chain becomes; it does not depend on the key
+    let mut out = [0; DATA_MOST + SEALED_BESIDE];
+    while let Some(head) = log[walked.whole..].get(..HEAD) {
+        let length = usize::from(u16::from_be_bytes([head[4], head[5]]));
+        if length > DATA_MOST {
+            return Err(walked.entries);
+        }
+        let bytes = match log[walked.whole..].get(..SEALED_BESIDE + length) {
+            Some(bytes) => bytes,
+            None => break,
+        };
+        let kind = u32::from_be_bytes([head[0], head[1], head[2], head[3]]);
+        let entry = Entry { before: walked.chain, kind, data: &bytes[HEAD..HEAD + length], bytes };
+        let _ = seal_add(&mut [1; KEY], &mut walked.chain, kind, entry.data, &mut out);
+        walked.last = Some(entry);
+        walked.entries += 1;
+        walked.whole += bytes.len();
+    }
+    Ok(walked)
+}
+
+/// A key, which is overwritten in memory when it is not needed any more.
+struct Key {
+    bytes: [u8; KEY + 1],
+    length: usize,
+}
+
+impl Key {
+    /// The bytes of a key's file, or as many as show that it is too long.
+    fn of(mut file: &File) -> io::Result<Key> {
+        let mut key = Key { bytes: [0; KEY + 1], length: 0 };
+        while key.length <= KEY {
+            match file.read(&mut key.bytes[key.length..]) {
+                Ok(0) => break,
+                Ok(more) => key.length += more,
+                Err(error) if error.kind() == ErrorKind::Interrupted => {}
+                Err(error) => return Err(error),
+            }
+        }
+        Ok(key)
+    }
+
+    #[inline]
+    fn seal(&mut self, chain: &mut Digest, kind: u32, data: &[u8], out: &mut [u8]) -> Answer {
+        let answer = seal_add(&mut self.bytes[..self.length], chain, kind, data, out);
+        clear_stack();
+        answer
+    }
+
+    /// Whether this is still the key under which a log's last entry was sealed; then it becomes the
+    /// next one.
+    #[inline]
+    fn moves_over(&mut self, last: Entry) -> bool {
+        let mut next = Key { bytes: self.bytes, length: self.length };
+        let mut chain = last.before;
+        let mut out = vec![0; last.bytes.len()];
+        let answer = next.seal(&mut chain, last.kind, last.data, &mut out);
+        let is_last = answer.number == 0 && out == last.bytes;
+        if is_last {
+            self.bytes = next.bytes;
+        }
+        is_last
+    }
+
+    /// Overwrites the key in its file.
+    fn store(&self, file: &File) -> io::Result<()> {
+        file.write_all_at(&self.bytes[..self.length], 0)?;
+        file.sync_all()
+    }
+}
+
+impl Drop for Key {
+    fn drop(&mut self) {
+        for byte in &mut self.bytes {
+            // volatile, or the stores would be left out since nothing reads the key again
+            unsafe { std::ptr::write_volatile(byte, 0) };
+        }
+    }
+}
+
+/// Puts an entry behind the whole part of a log; of one that can't be written nothing is left, nor of
+/// a log that is new.
+fn put_behind(log: &Path, whole: usize, entry: &[u8], is_new: bool) -> io::Result<()> {
+    let file = OpenOptions::new().write(true).create(true).open(log)?;
+    // what is left of an entry that was cut off
+    file.set_len(whole as u64)?;
+    let written = file.write_all_at(entry, whole as u64).and_then(|()| file.sync_all());
+    if written.is_err() {
+        // the first error is the one to tell
+        let _ = if is_new { fs::remove_file(log) } else { file.set_len(whole as u64) };
+    }
+    written?;
+    place::sync_folder(&log.canonicalize()?)
+}
