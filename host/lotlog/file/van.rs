@@ -77,7 +77,7 @@ struct Walked<'a> {
 /// Reads a log; what it has behind its last whole entry is a part of one. Where an entry's length is
 /// over the most, the log is no van's, and the entry's number comes back.
 #[inline]
-fn walk(log: &[u8]) -> Result<Walked, u64> {
+fn walk(log: &[u8]) -> Result<Walked<'_>, u64> {
     let mut walked = Walked { entries: 0, whole: 0, last: None, chain: [0; 32] };
     // the library says what the chain becomes; it does not depend on the key
     let mut out = [0; DATA_MOST + SEALED_BESIDE];
