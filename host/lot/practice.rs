@@ -158,7 +158,7 @@ pub fn compare(words: &Words, _: &Teller) -> Outcome {
         return Ok(Said::good("same").with("answer", "same").with("count", at));
     }
     let said = Said::good("different").status(FALSE).with("answer", "different").with("count", at);
-    Ok(said.aside(format!("at {} {} is held: these are two logs", at, hex(digest))))
+    Ok(said.aside(format!("at {} the held log has {}: the other is another log", at, hex(digest))))
 }
 
 /// A length of which the held state does not say anything.
