@@ -56,9 +56,9 @@ pub const COMMANDS: [Command; 23] = [
         most: 1,
         choices: &[ROOM],
         summary: "gives a store more room",
-        text: "The store gets a new file, made beside it and named STORE.growing until all of it is \
-               safe. With the room that there is nothing changes; less is refused. Prints the log, \
-               the room and the count.",
+        text: "The store gets a new file, made beside it and named STORE.growing until all of it \
+               is safe. With the room that there is nothing changes; less is refused. Prints the \
+               log, the room and the count.",
         run: house::grow,
     },
     Command {
@@ -73,11 +73,11 @@ pub const COMMANDS: [Command; 23] = [
         }],
         summary: "enters lots, each safe on the disk when its line is printed",
         text: "An entry has 0 to 4,096 bytes; an empty file or line is one. A line for each: its \
-               position, the digest T there and its name, which for a line is FILE:LINE. Files are all \
-               read before the first is entered. Lines are entered as they come, and the first that is \
-               refused ends it: those that were printed are in the log. A process that is ended may have \
-               entered one more than it printed; lot count tells. The store holds digests and not the \
-               entries: keep these, a proof is checked with its entry.",
+               position, the digest T there and its name, which for a line is FILE:LINE. Files are \
+               all read before the first is entered. Lines are entered as they come, and the first \
+               that is refused ends it: those that were printed are in the log. A process that is \
+               ended may have entered one more than it printed; lot count tells. The store holds \
+               digests and not the entries: keep these, a proof is checked with its entry.",
         run: house::append,
     },
     Command {
@@ -97,8 +97,9 @@ pub const COMMANDS: [Command; 23] = [
         most: 2,
         choices: &[],
         summary: "what a practice is to hold at a length",
-        text: "Prints the length and the digest T there, at the count unless N is given. These are two \
-               words of lot advance and of lot compare: lot compare HELD $(lot digest STORE).",
+        text:
+            "Prints the length and the digest T there, at the count unless N is given. These are \
+               two words of lot advance and of lot compare: lot compare HELD $(lot digest STORE).",
         run: house::digest,
     },
     Command {
@@ -108,9 +109,9 @@ pub const COMMANDS: [Command; 23] = [
         most: 1,
         choices: &[],
         summary: "computes every digest of a log anew",
-        text: "Prints sound and the count, or wrong and the lowest element whose T is wrong, with status \
-               1. What an audit can't see, a log cut back to an earlier length above all, only what was \
-               kept elsewhere shows: keep what lot digest prints.",
+        text: "Prints sound and the count, or wrong and the lowest element whose T is wrong, with \
+               status 1. What an audit can't see, a log cut back to an earlier length above all, \
+               only what was kept elsewhere shows: keep what lot digest prints.",
         run: house::audit,
     },
     Command {
@@ -120,7 +121,9 @@ pub const COMMANDS: [Command; 23] = [
         most: 2,
         choices: &[AT, OUT],
         summary: "makes the proof that an entry is element I",
-        text: "For lot verify, with the entry. Prints the element, the length and the bytes of the proof.",
+        text:
+            "For lot verify, with the entry. Prints the element, the length and the bytes of the \
+               proof.",
         run: house::prove,
     },
     Command {
@@ -130,8 +133,8 @@ pub const COMMANDS: [Command; 23] = [
         most: 2,
         choices: &[AT, OUT],
         summary: "makes the proof that the log of FROM elements has grown to N",
-        text: "For lot advance, of a practice that holds the log at FROM, which is 0 at first. Prints the \
-               two lengths and the bytes of the proof.",
+        text: "For lot advance, of a practice that holds the log at FROM, which is 0 at first. \
+               Prints the two lengths and the bytes of the proof.",
         run: house::prove_growth,
     },
     Command {
@@ -161,9 +164,10 @@ pub const COMMANDS: [Command; 23] = [
         most: 4,
         choices: &[],
         summary: "checks that the log has only grown to N, and holds it from then on",
-        text: "Only if the proof is accepted the held file is replaced, whole: the new one is written \
-               beside it as HELD.saving, flushed, and renamed. Otherwise it stays as it is, and the line \
-               says where the proof broke. If another process has replaced it meanwhile, nothing is done.",
+        text: "Only if the proof is accepted the held file is replaced, whole: the new one is \
+               written beside it as HELD.saving, flushed, and renamed. Otherwise it stays as it \
+               is, and the line says where the proof broke. If another process has replaced it \
+               meanwhile, nothing is done.",
         run: practice::advance,
     },
     Command {
@@ -172,12 +176,16 @@ pub const COMMANDS: [Command; 23] = [
         least: 3,
         most: 4,
         choices: &[
-            Choice { name: "--at", values: &["N"], text: "the length, in the place of the held one" },
+            Choice {
+                name: "--at",
+                values: &["N"],
+                text: "the length, in the place of the held one",
+            },
             Choice { name: "--digest", values: &["HEX"], text: "the digest there, likewise" },
         ],
         summary: "checks that an entry is element I of the log",
-        text: "ENTRY and PROOF are files. Accepted is exactly what the rules of the log accept; otherwise \
-               the line says why, and where the proof broke.",
+        text: "ENTRY and PROOF are files. Accepted is exactly what the rules of the log accept; \
+               otherwise the line says why, and where the proof broke.",
         run: practice::verify,
     },
     Command {
@@ -187,9 +195,9 @@ pub const COMMANDS: [Command; 23] = [
         most: 3,
         choices: &[],
         summary: "whether another practice was told the same",
-        text: "N and DIGEST are what the other holds. Prints same, or different with status 1: then the \
-               house has shown two logs, and both practices should keep all that they have. N must be the \
-               held count, or a length whose digest is among the held rows.",
+        text: "N and DIGEST are what the other holds. Prints same, or different with status 1: \
+               then the house has shown two logs, and both practices should keep all that they \
+               have. N must be the held count, or a length whose digest is among the held rows.",
         run: practice::compare,
     },
     Command {
@@ -203,8 +211,9 @@ pub const COMMANDS: [Command; 23] = [
             text: "where the two messages go, if there are any",
         }],
         summary: "what two accepted proofs for one position, length and digest lead to",
-        text: "Prints same if entries and proofs are the same byte for byte. Otherwise, with status 1, it \
-               writes two different messages that have one SHA-256, and prints how anyone can see that.",
+        text: "Prints same if entries and proofs are the same byte for byte. Otherwise, with \
+               status 1, it writes two different messages that have one SHA-256, and prints how \
+               anyone can see that.",
         run: practice::dispute,
     },
     Command {
@@ -214,9 +223,9 @@ pub const COMMANDS: [Command; 23] = [
         most: 5,
         choices: &[],
         summary: "draws the path from element I to N, and where a proof breaks",
-        text: "A line for each component of the proof, with its bytes and its links, and one for each hop \
-               between them; the link that the hop follows is in brackets. With a proof the last line is \
-               that of lot verify.",
+        text: "A line for each component of the proof, with its bytes and its links, and one for \
+               each hop between them; the link that the hop follows is in brackets. With a proof \
+               the last line is that of lot verify.",
         run: draw::draw,
     },
     Command {
@@ -226,8 +235,10 @@ pub const COMMANDS: [Command; 23] = [
         most: 1,
         choices: &[HANDLES],
         summary: "the root of a list of keys",
-        text: "LIST has a key a line, in any order, at most 1,000 of 0 to 4,096 bytes. A key twice is \
-               refused, and so is space around a key, since a key with it is another key. Prints the root.",
+        text:
+            "LIST has a key a line, in any order, at most 1,000 of 0 to 4,096 bytes. A key twice \
+               is refused, and so is space around a key, since a key with it is another key. \
+               Prints the root.",
         run: lists::root,
     },
     Command {
@@ -277,13 +288,18 @@ pub const COMMANDS: [Command; 23] = [
         most: 2,
         choices: &[
             KEY,
-            Choice { name: "--type", values: &["T"], text: "the entry's type, below 2^32 and not 1" },
+            Choice {
+                name: "--type",
+                values: &["T"],
+                text: "the entry's type, below 2^32 and not 1",
+            },
         ],
         summary: "seals an entry behind a van's log",
-        text: "DATA is a file of 0 to 4,096 bytes. LOG is made if it is not there; the key is A(0) then. When \
-               the entry is safe on the disk the key is overwritten with the next one. A command that is cut \
-               off in between is finished by the next. Keep the key's file in memory (a file system such as \
-               /run): a disk keeps what is overwritten.",
+        text:
+            "DATA is a file of 0 to 4,096 bytes. LOG is made if it is not there; the key is A(0) \
+               then. When the entry is safe on the disk the key is overwritten with the next one. \
+               A command that is cut off in between is finished by the next. Keep the key's file \
+               in memory (a file system such as /run): a disk keeps what is overwritten.",
         run: van::seal,
     },
     Command {
@@ -307,8 +323,9 @@ pub const COMMANDS: [Command; 23] = [
             text: "the key that the van began with, 32 bytes",
         }],
         summary: "checks a van's whole log",
-        text: "Accepted if every entry is sealed as the van would have and the last one alone closes. \
-               Otherwise the line says which entry, from 0, is the first wrong one, or that none closes.",
+        text: "Accepted if every entry is sealed as the van would have and the last one alone \
+               closes. Otherwise the line says which entry, from 0, is the first wrong one, or \
+               that none closes.",
         run: van::seal_check,
     },
 ];

@@ -27,8 +27,8 @@ pub fn open(name: &OsStr) -> Result<Box<dyn Read>, Trouble> {
     Ok(Box::new(io::stdin()))
 }
 
-/// The bytes of a file, but no more than so many: a file that is longer than any can be that is of use
-/// is refused by its first bytes as it would be by all.
+/// The bytes of a file, but no more than so many: a file that is longer than any can be that is of
+/// use is refused by its first bytes as it would be by all.
 pub fn read_first(name: &OsStr, most: usize) -> Result<Vec<u8>, Trouble> {
     let mut bytes = vec![];
     match open(name)?.take(most as u64).read_to_end(&mut bytes) {
@@ -70,8 +70,8 @@ impl<'a> Output<'a> {
         }
     }
 
-    /// Writes it whole: a file that is there is replaced when all of the new one is safe. A device or
-    /// a pipe takes the bytes as they come.
+    /// Writes it whole: a file that is there is replaced when all of the new one is safe. A device
+    /// or a pipe takes the bytes as they come.
     pub fn write(&self, bytes: &[u8]) -> Result<(), Trouble> {
         let Output(name) = self;
         let written = match fs::metadata(name) {

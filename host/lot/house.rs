@@ -173,7 +173,8 @@ fn opened(name: &OsStr, path: &Path) -> Result<Writer, Stop> {
     Writer::open(path).map_err(|error| Stop::of(name, error))
 }
 
-/// Appends one entry after the other, and tells each when it is safe. The first that is refused ends it.
+/// Appends one entry after the other, and tells each when it is safe. The first that is refused
+/// ends it.
 fn append_all(
     store: &OsStr,
     mut writer: Writer,

@@ -1,9 +1,9 @@
 //! `lot`: the lot log on the command line, for the house that keeps it and for the practices that
-//! check it. What is right the proved library says; this program reads words and files, lends them to
-//! it, and tells its answer in a line, with an exit status that a script can rely on.
+//! check it. What is right the proved library says; this program reads words and files, lends them
+//! to it, and tells its answer in a line, with an exit status that a script can rely on.
 //!
-//! `commands` lists what there is, with the help of each; `house`, `practice`, `draw`, `lists` and `van`
-//! do it; `words` reads a command line, `files` what it names, and `said` tells.
+//! `commands` lists what there is, with the help of each; `house`, `practice`, `draw`, `lists` and
+//! `van` do it; `words` reads a command line, `files` what it names, and `said` tells.
 
 mod bar;
 mod commands;

@@ -1,4 +1,5 @@
-//! The manual page, which is made of the commands' own help, as text and in the form that `man` reads.
+//! The manual page, which is made of the commands' own help, as text and in the form that `man`
+//! reads.
 
 use std::ffi::{OsStr, OsString};
 use std::fmt::Write as _;
@@ -28,7 +29,11 @@ const COMMON: [Choice; 3] = [
 
 const STATUSES: [(&str, &str); 4] = [
     ("0", "good"),
-    ("1", "looked at and not so: a proof that is not accepted, a wrong T, a difference, a kind of proof that is not true"),
+    (
+        "1",
+        "looked at and not so: a proof that is not accepted, a wrong T, a difference, a kind of proof \
+         that is not true",
+    ),
     ("2", "usage; a file that can't be read or written; a number or an entry that can't be taken"),
     ("3", "the caller's own store, held file, list, or van's log or key is damaged or refuses"),
 ];
@@ -165,27 +170,30 @@ fn capital(text: &str) -> String {
 }
 
 const DESCRIPTION: [&str; 5] = [
-    "A house keeps an append-only log of lots in a file, the store. Practices hold a digest of that log \
-     in a file of their own, and check the house's proofs with it: that a lot stands in the log, and that \
-     the log has only grown. Everything that is decided here the proved library decides; this command \
-     reads words and files and tells its answer.",
-    "An answer is one line on standard output. A refusal is an answer too: its number, its meaning and \
-     its place, as in: refused 10: link differs at element 8, level 1, after 2 hops. What is no answer, a \
-     file that can't be read for instance, is a complaint on standard error, and then nothing is on \
-     standard output.",
-    "Options may stand anywhere; -- ends them. Numbers are decimal digits, DIGEST and ROOT 64 hex digits. \
-     Where a file is read, - is standard input, for one file of a command. A file that a command makes \
-     (-o) is replaced whole, and is never one that it reads.",
-    "A second process that would write a store, a held file or a key which another is writing complains \
-     and does nothing. Readers may run beside a writer. After a process that was ended, and after a power \
-     cut, a store has the old log or the new one, a held file the old state or the new one.",
-    "With --json an answer is an object on one line: command, status, and what the line says under names \
-     of its own; a refusal has refused, meaning and, where it has a place, element, row, level, hops, \
-     proof, line or entry.",
+    "A house keeps an append-only log of lots in a file, the store. Practices hold a digest of \
+     that log in a file of their own, and check the house's proofs with it: that a lot stands in \
+     the log, and that the log has only grown. Everything that is decided here the proved library \
+     decides; this command reads words and files and tells its answer.",
+    "An answer is one line on standard output. A refusal is an answer too: its number, its meaning \
+     and its place, as in: refused 10: link differs at element 8, level 1, after 2 hops. What is \
+     no answer, a file that can't be read for instance, is a complaint on standard error, and then \
+     nothing is on standard output.",
+    "Options may stand anywhere; -- ends them. Numbers are decimal digits, DIGEST and ROOT 64 hex \
+     digits. Where a file is read, - is standard input, for one file of a command. A file that a \
+     command makes (-o) is replaced whole, and is never one that it reads.",
+    "A second process that would write a store, a held file or a key which another is writing \
+     complains and does nothing. Readers may run beside a writer. After a process that was ended, \
+     and after a power cut, a store has the old log or the new one, a held file the old state or \
+     the new one.",
+    "With --json an answer is an object on one line: command, status, and what the line says under \
+     names of its own; a refusal has refused, meaning and, where it has a place, element, row, \
+     level, hops, proof, line or entry.",
 ];
 
-const REFUSALS: &str = "The numbers of a refusal and their meanings. 12 is printed by lot audit as wrong N, with its number on \
-     standard error; 6 is a van's key that has not 32 bytes.";
+const REFUSALS: &str =
+    "The numbers of a refusal and their meanings. 12 is printed by lot audit as \
+                        wrong N, with its number on standard error; 6 is a van's key that has not \
+                        32 bytes.";
 
 const EXAMPLES: &str = "lot init store.lot --log 7 --room 100000
 lot append store.lot delivery.txt
@@ -197,8 +205,15 @@ lot advance held 1 DIGEST growth
 lot verify held 1 delivery.txt proof";
 
 const FILES: [(&str, &str); 3] = [
-    ("STORE", "16 bytes, and 65 for each element there is room for; STORE.growing beside it while it grows"),
-    ("HELD", "53 to 1,077 bytes; HELD.saving beside it while it is replaced. Keep a copy on another machine"),
+    (
+        "STORE",
+        "16 bytes, and 65 for each element there is room for; STORE.growing beside it while it grows",
+    ),
+    (
+        "HELD",
+        "53 to 1,077 bytes; HELD.saving beside it while it is replaced. Keep a copy on another \
+         machine",
+    ),
     ("PROOF", "up to 34,784 bytes for an element, 34,720 for growth, 8,192 for a key"),
 ];
 

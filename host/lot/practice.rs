@@ -47,8 +47,8 @@ impl Parts {
         (0..LEVELS as u64).filter(|row| self.count >> row & 1 == 1).collect()
     }
 
-    /// The lengths whose digests are held, and these: the count's, and for each row in use that of the
-    /// count with the bits up to the row's cleared.
+    /// The lengths whose digests are held, and these: the count's, and for each row in use that of
+    /// the count with the bits up to the row's cleared.
     fn digests(&self) -> Vec<(u64, Digest)> {
         let of_row = |row: u64| (self.count >> row >> 1 << row << 1, self.rows[row as usize]);
         let rows = self.in_use().into_iter().map(of_row);

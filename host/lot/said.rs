@@ -46,8 +46,8 @@ impl From<String> for Value {
     }
 }
 
-/// An answer: the line, or several where it is a picture, and what an object has of it. The aside is a
-/// line for standard error.
+/// An answer: the line, or several where it is a picture, and what an object has of it. The aside
+/// is a line for standard error.
 pub struct Said {
     pub status: u8,
     pub line: String,
@@ -55,8 +55,8 @@ pub struct Said {
     pub aside: Option<String>,
 }
 
-/// Whether the library's number is the verdict on something that was to be checked, or was asked for
-/// something that it can't give.
+/// Whether the library's number is the verdict on something that was to be checked, or was asked
+/// for something that it can't give.
 #[derive(Clone, Copy, PartialEq, Eq)]
 pub enum Call {
     Checks,
@@ -121,8 +121,9 @@ impl Said {
     }
 }
 
-/// The exit status that belongs to a refusal: 3 where the caller's own store, held file, list, key or log is
-/// to blame, 1 where something was checked and is not so, 2 where something was asked for that the call can't take.
+/// The exit status that belongs to a refusal: 3 where the caller's own store, held file, list, key
+/// or log is to blame, 1 where something was checked and is not so, 2 where something was asked for
+/// that the call can't take.
 fn status_of(number: u64, call: Call) -> u8 {
     match number {
         1 | 2 | 5 | 6 | 14 | 18..=23 => DAMAGED,
@@ -322,7 +323,8 @@ fn quoted(text: &str) -> String {
     quoted
 }
 
-/// A name or a key as it stands in a line: whatever would not show, or would end the line, as an escape.
+/// A name or a key as it stands in a line: whatever would not show, or would end the line, as an
+/// escape.
 pub fn shown(name: &OsStr) -> String {
     let mut shown = String::new();
     let mut bytes = name.as_bytes();
