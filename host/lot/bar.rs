@@ -8,7 +8,8 @@ extern "C" {
     fn isatty(file: c_int) -> c_int;
 }
 
-/// Standard error's number.
+/// The numbers of standard output and standard error.
+const STANDARD_OUTPUT: c_int = 1;
 const STANDARD_ERROR: c_int = 2;
 
 const WAIT: Duration = Duration::from_secs(1);
@@ -16,7 +17,10 @@ const PAUSE: Duration = Duration::from_millis(100);
 const WIDTH: u64 = 30;
 
 pub struct Bar {
-    is_shown: bool,
+    is_wanted: bool,
+    /// Whether lines of the answer go to a terminal too: then the bar makes room for each, and is drawn
+    /// anew below it.
+    among_lines: bool,
     began: Instant,
     drawn: Option<Instant>,
     /// How much there is to do, if that is known.
@@ -25,20 +29,18 @@ pub struct Bar {
 
 impl Bar {
     pub fn new(total: Option<u64>, quiet: bool) -> Bar {
-        let is_shown = !quiet && unsafe { isatty(STANDARD_ERROR) } == 1;
-        Bar {
-            is_shown,
-            began: Instant::now(),
-            drawn: None,
-            total: total.filter(|&total| total > 0),
-        }
+        let is_terminal = |file: c_int| unsafe { isatty(file) } == 1;
+        let is_wanted = !quiet && is_terminal(STANDARD_ERROR);
+        let among_lines = is_terminal(STANDARD_OUTPUT);
+        let total = total.filter(|&total| total > 0);
+        Bar { is_wanted, among_lines, began: Instant::now(), drawn: None, total }
     }
 
-    /// Shows how far it is, at most ten times a second.
+    /// Shows how far it is, where lines do not pass it at most ten times a second.
     pub fn show(&mut self, done: u64, appended: u64) {
         let is_early = self.began.elapsed() < WAIT;
         let is_soon = self.drawn.map_or(false, |drawn| drawn.elapsed() < PAUSE);
-        if !self.is_shown || is_early || is_soon {
+        if !self.is_wanted || is_early || is_soon {
             return;
         }
         self.drawn = Some(Instant::now());
@@ -47,8 +49,15 @@ impl Bar {
     }
 
     /// Makes room for a line.
+    pub fn make_room(&mut self) {
+        if self.among_lines {
+            self.clear();
+        }
+    }
+
+    /// Takes the bar away.
     pub fn clear(&mut self) {
-        if self.drawn.is_some() {
+        if self.drawn.take().is_some() {
             write("\r\x1b[K");
         }
     }

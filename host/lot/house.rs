@@ -157,7 +157,7 @@ pub fn append(words: &Words, teller: &Teller) -> Outcome {
             let mut files = Files::read(files)?;
             let writer = opened(name, path)?;
             if let Some(name) = files.too_long() {
-                return Ok(Said::refused_with(3, Call::Makes).at(&format!(", {}", name)));
+                return Ok(refused_entry(3, name));
             }
             append_all(name, writer, &mut files, teller)
         }
@@ -183,35 +183,41 @@ fn append_all(
 ) -> Outcome {
     let mut bar = Bar::new(entries.progress().1, teller.quiet);
     let mut appended = 0;
-    loop {
-        let next = entries.next();
-        let (name, entry) = match next {
+    let outcome = loop {
+        let (name, entry) = match entries.next() {
             Ok(Some(entry)) => entry,
-            ended => {
-                bar.clear();
-                return ended.map(|_| Said::told()).map_err(Stop::from);
-            }
+            Ok(None) => break Ok(Said::told()),
+            Err(trouble) => break Err(trouble.into()),
         };
-        let said = append_one(store, &mut writer, &name, &entry);
-        bar.clear();
-        teller.tell(&said?)?;
+        let said = match append_one(store, &mut writer, &name, &entry) {
+            Ok(said) => said,
+            refused => break refused,
+        };
+        bar.make_room();
+        if let Err(trouble) = teller.tell(&said) {
+            break Err(trouble.into());
+        }
         appended += 1;
         bar.show(entries.progress().0, appended);
-    }
+    };
+    bar.clear();
+    outcome
 }
 
 fn append_one(store: &OsStr, writer: &mut Writer, name: &str, entry: &[u8]) -> Outcome {
     let position = match writer.append(entry) {
         Ok(position) => position,
-        Err(Error::Refused(refusal)) => {
-            let refused = Said::refused_with(refusal.0, Call::Makes);
-            return Err(refused.at(&format!(", {}", name)).with("name", name).into());
-        }
+        Err(Error::Refused(refusal)) => return Err(refused_entry(refusal.0, name).into()),
         Err(error) => return Err(Stop::of(store, error)),
     };
     let digest = digest_of(writer.store(), position)?;
     let said = Said::good(format!("{} {} {}", position, hex(&digest), name));
     Ok(said.with("element", position).with("digest", hex(&digest)).with("name", name))
+}
+
+/// The refusal of an entry, with its name.
+fn refused_entry(number: u64, name: &str) -> Said {
+    Said::refused_with(number, Call::Makes).at(&format!(", {}", name)).with("name", name)
 }
 
 fn digest_of(store: &[u8], at: u64) -> Result<Digest, Stop> {
