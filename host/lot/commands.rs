@@ -1,7 +1,7 @@
 //! The commands: what each is called with, what its help says, and the function that does it.
 
 use crate::words::{Choice, Command};
-use crate::{draw, house, lists, practice, van};
+use crate::{append, draw, house, lists, practice, van};
 
 const LOG: Choice = Choice { name: "--log", values: &["N"], text: "the number of the log" };
 
@@ -78,7 +78,7 @@ pub const COMMANDS: [Command; 23] = [
                that is refused ends it: those that were printed are in the log. A process that is \
                ended may have entered one more than it printed; lot count tells. The store holds \
                digests and not the entries: keep these, a proof is checked with its entry.",
-        run: house::append,
+        run: append::append,
     },
     Command {
         name: "count",

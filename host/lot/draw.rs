@@ -2,8 +2,11 @@
 
 use lotlog::Answer;
 
+use crate::json::{Fields, Value};
 use crate::practice::Claim;
-use crate::said::{hops, Call, Fields, Outcome, Said, Teller, Value, GOOD};
+use crate::said::{Call, Outcome, Said, GOOD};
+use crate::teller::Teller;
+use crate::text::hops;
 use crate::words::Words;
 
 /// The bytes of a digest.

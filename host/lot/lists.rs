@@ -7,7 +7,9 @@ use lotlog::{Answer, Digest, HANDLES_MOST, TRIE_PROOF_MOST};
 
 use crate::files::{read_first, Output};
 use crate::house::{done_alone, ENTRY_MOST};
-use crate::said::{hex, shown, Call, Outcome, Said, Stop, Teller, Trouble};
+use crate::said::{Call, Outcome, Said, Stop, Trouble};
+use crate::teller::Teller;
+use crate::text::{hex, shown};
 use crate::words::{digest_in, Words};
 
 /// The bytes of a list beyond which it has a key that is too long, or too many.

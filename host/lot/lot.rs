@@ -2,18 +2,23 @@
 //! check it. What is right the proved library says; this program reads words and files, lends them
 //! to it, and tells its answer in a line, with an exit status that a script can rely on.
 //!
-//! `commands` lists what there is, with the help of each; `house`, `practice`, `draw`, `lists` and
-//! `van` do it; `words` reads a command line, `files` what it names, and `said` tells.
+//! `commands` lists what there is, with the help of each; `house`, `append`, `practice`, `draw`,
+//! `lists` and `van` do it. `words` reads a command line and `files` what it names; `said` is what
+//! comes of it, and `teller` tells it.
 
+mod append;
 mod bar;
 mod commands;
 mod draw;
 mod files;
 mod house;
+mod json;
 mod lists;
 mod manual;
 mod practice;
 mod said;
+mod teller;
+mod text;
 mod van;
 mod words;
 
@@ -22,7 +27,8 @@ use std::os::raw::c_int;
 use std::{env, process};
 
 use commands::COMMANDS;
-use said::{Said, Stop, Teller, Trouble, UNABLE};
+use said::{Said, Stop, Trouble, UNABLE};
+use teller::Teller;
 use words::{Command, Words};
 
 extern "C" {

@@ -5,7 +5,8 @@ use std::ffi::{OsStr, OsString};
 use std::fmt::Write as _;
 
 use crate::commands::{COMMANDS, GROUPS};
-use crate::said::{shown, Outcome, Said, Trouble};
+use crate::said::{Outcome, Said, Trouble};
+use crate::text::shown;
 use crate::words::{Choice, Command};
 
 /// The version of this program.

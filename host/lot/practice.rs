@@ -7,7 +7,10 @@ use lotlog::{Digest, Held, Side, HELD_BYTES, HELD_FILE_MOST, LEVELS, PROOF_MOST}
 
 use crate::files::{read_first, Output};
 use crate::house::{done, done_alone, ENTRY_MOST};
-use crate::said::{hex, hops, shown, Call, Outcome, Said, Stop, Teller, Trouble, Value, FALSE};
+use crate::json::Value;
+use crate::said::{Call, Outcome, Said, Stop, Trouble, FALSE};
+use crate::teller::Teller;
+use crate::text::{hex, hops, shown};
 use crate::words::Words;
 
 /// The bytes of each buffer of a dispute.

@@ -9,7 +9,8 @@ use lotlog::{Digest, CLOSING};
 
 use crate::files::{must_differ, read, read_first};
 use crate::house::{done, ENTRY_MOST};
-use crate::said::{Call, Outcome, Said, Stop, Teller, Trouble, DAMAGED};
+use crate::said::{Call, Outcome, Said, Stop, Trouble, DAMAGED};
+use crate::teller::Teller;
 use crate::words::Words;
 
 /// The bytes of a key.

@@ -6,7 +6,9 @@ use std::path::Path;
 
 use lotlog::Digest;
 
-use crate::said::{shown, Outcome, Teller, Trouble};
+use crate::said::{Outcome, Trouble};
+use crate::teller::Teller;
+use crate::text::shown;
 
 /// An option with its values.
 pub struct Choice {
