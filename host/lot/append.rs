@@ -8,7 +8,7 @@ use std::path::Path;
 use lotlog::file::{Error, Writer};
 
 use crate::bar::Bar;
-use crate::files::{open, read_first};
+use crate::files::{must_be_one, open, read_first};
 use crate::house::{digest_of, ENTRY_MOST};
 use crate::said::{Call, Outcome, Said, Stop, Trouble};
 use crate::teller::Teller;
@@ -32,6 +32,7 @@ struct Files {
 
 impl Files {
     fn read(names: &[OsString]) -> Result<Files, Trouble> {
+        must_be_one(&names.iter().map(|name| &name[..]).collect::<Vec<_>>())?;
         let read = |name: &OsString| Ok((shown(name), read_first(name, ENTRY_MOST + 1)?));
         let entries = names.iter().map(read).collect::<Result<_, _>>()?;
         Ok(Files { entries, next: 0 })

@@ -99,7 +99,7 @@ pub const COMMANDS: [Command; 23] = [
         summary: "what a practice is to hold at a length",
         text:
             "Prints the length and the digest T there, at the count unless N is given. These are \
-               two words of lot advance and of lot compare: lot compare HELD $(lot digest STORE).",
+             two words of lot advance and of lot compare: lot compare HELD $(lot digest STORE).",
         run: house::digest,
     },
     Command {
@@ -123,7 +123,7 @@ pub const COMMANDS: [Command; 23] = [
         summary: "makes the proof that an entry is element I",
         text:
             "For lot verify, with the entry. Prints the element, the length and the bytes of the \
-               proof.",
+             proof.",
         run: house::prove,
     },
     Command {
@@ -237,8 +237,8 @@ pub const COMMANDS: [Command; 23] = [
         summary: "the root of a list of keys",
         text:
             "LIST has a key a line, in any order, at most 1,000 of 0 to 4,096 bytes. A key twice \
-               is refused, and so is space around a key, since a key with it is another key. \
-               Prints the root.",
+             is refused, and so is space around a key, since a key with it is another key. Prints \
+             the root.",
         run: lists::root,
     },
     Command {
@@ -297,9 +297,9 @@ pub const COMMANDS: [Command; 23] = [
         summary: "seals an entry behind a van's log",
         text:
             "DATA is a file of 0 to 4,096 bytes. LOG is made if it is not there; the key is A(0) \
-               then. When the entry is safe on the disk the key is overwritten with the next one. \
-               A command that is cut off in between is finished by the next. Keep the key's file \
-               in memory (a file system such as /run): a disk keeps what is overwritten.",
+             then. When the entry is safe on the disk the key is overwritten with the next one. A \
+             command that is cut off in between is finished by the next. Keep the key's file in \
+             memory (a file system such as /run): a disk keeps what is overwritten.",
         run: van::seal,
     },
     Command {

@@ -2,6 +2,7 @@
 
 use lotlog::Answer;
 
+use crate::files::must_be_one;
 use crate::json::{Fields, Value};
 use crate::practice::Claim;
 use crate::said::{Call, Outcome, Said, GOOD};
@@ -77,23 +78,41 @@ fn path(from: u64, to: u64) -> Vec<Component> {
 
 pub fn draw(words: &Words, _: &Teller) -> Outcome {
     let (element, of) = (words.number(words.word(0))?, words.number(words.word(1))?);
-    // what positions there are the library says: of these it looks at the proof, which is empty
-    let asked = lotlog::check_membership(&[], element, of, &[0; 32], &[]);
-    if asked.number == 4 {
-        return Ok(Said::refused(asked, Call::Makes));
-    }
-    let components = path(element, of);
     match words.words_from(2) {
-        [] => Ok(drawn(element, of, &components, None)),
+        [] => Ok(drawn_path(element, of)),
         [digest, entry, proof] => {
             let digest = words.digest(digest)?;
-            let claim = Claim { element, of, digest, entry, proof };
-            let (entry, proof) = claim.read()?;
-            let answer = lotlog::check_membership(&entry, element, of, &digest, &proof);
-            Ok(drawn(element, of, &components, Some((answer, claim.checked(&entry, &proof)))))
+            must_be_one(&[entry, proof])?;
+            drawn_proof(&Claim { element, of, digest, entry, proof })
         }
         _ => Err(words.wrong("a proof is drawn with DIGEST ENTRY PROOF").into()),
     }
+}
+
+/// Why there is no path between two positions, if there is none. The library says it: where there is a
+/// path it refuses the proof, which is empty.
+fn no_path(element: u64, of: u64) -> Option<Answer> {
+    let asked = lotlog::check_membership(&[], element, of, &[0; 32], &[]);
+    Some(asked).filter(|asked| asked.number == 4)
+}
+
+fn drawn_path(element: u64, of: u64) -> Said {
+    match no_path(element, of) {
+        Some(refused) => Said::refused(refused, Call::Makes),
+        None => drawn(element, of, &path(element, of), None),
+    }
+}
+
+/// The path with what the check of a proof found on it.
+fn drawn_proof(claim: &Claim) -> Outcome {
+    let Claim { element, of, digest, .. } = *claim;
+    let (entry, proof) = claim.read()?;
+    let said = claim.checked(&entry, &proof);
+    if no_path(element, of).is_some() {
+        return Ok(said);
+    }
+    let answer = lotlog::check_membership(&entry, element, of, &digest, &proof);
+    Ok(drawn(element, of, &path(element, of), Some((answer, said))))
 }
 
 /// The picture, and with a proof its verdict.

@@ -6,25 +6,28 @@ use std::fs::{self, File, OpenOptions};
 use std::io::{self, Read, Write};
 use std::os::unix::fs::MetadataExt;
 use std::path::Path;
-use std::sync::atomic::{AtomicBool, Ordering::SeqCst};
 
 use lotlog::file::{put, read_all, Before, Reader};
 
 use crate::said::Trouble;
 
-/// Whether standard input was taken for a file already.
-static TAKEN: AtomicBool = AtomicBool::new(false);
+/// Looks that standard input stands for one file of a command at most: it can be read once.
+pub fn must_be_one(names: &[&OsStr]) -> Result<(), Trouble> {
+    match names.iter().filter(|name| **name == "-").count() {
+        0 | 1 => Ok(()),
+        _ => Err(Trouble::new("standard input can stand for one file only")),
+    }
+}
 
-/// Opens a file to read, or takes standard input, which can be had once.
+/// Opens a file to read, or for `-` standard input.
 pub fn open(name: &OsStr) -> Result<Box<dyn Read>, Trouble> {
-    if name != "-" {
-        let file = File::open(name).map_err(|error| Trouble::with_file(name, &error))?;
-        return Ok(Box::new(file));
+    if name == "-" {
+        return Ok(Box::new(io::stdin()));
     }
-    if TAKEN.swap(true, SeqCst) {
-        return Err(Trouble::new("standard input can stand for one file only"));
+    match File::open(name) {
+        Ok(file) => Ok(Box::new(file)),
+        Err(error) => Err(Trouble::with_file(name, &error)),
     }
-    Ok(Box::new(io::stdin()))
 }
 
 /// The bytes of a file, but no more than so many: a file that is longer than any can be that is of

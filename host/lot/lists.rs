@@ -24,7 +24,8 @@ impl List {
     fn read(words: &Words, name: &OsStr) -> Result<List, Stop> {
         let bytes = read_first(name, LIST_MOST)?;
         let mut handles = vec![];
-        for (line, text) in lines_of(&bytes).zip(1..).map(|(text, line)| (line, text)) {
+        // one more than a list may have shows that it is too long
+        for (text, line) in lines_of(&bytes).take(HANDLES_MOST + 1).zip(1..) {
             let handle = match words.chosen("--handles") {
                 Some(_) => digest_in(text).ok_or_else(|| at_line(14, line))?,
                 None => handle_of(name, text, line)?,
@@ -42,11 +43,14 @@ impl List {
         self.handles.iter().flat_map(|(handle, _)| *handle).collect()
     }
 
-    /// The refusal of this list, with the line that is to blame: one that does not rise, or one too
-    /// many.
+    /// The refusal of this list, with the line that is to blame: the first one too many, or one that
+    /// does not rise.
     fn refused(&self) -> Said {
         let falls = self.handles.windows(2).find(|pair| pair[0].0 >= pair[1].0);
-        let line = falls.map_or(HANDLES_MOST as u64 + 1, |pair| pair[0].1.max(pair[1].1));
+        let line = match falls {
+            Some(pair) if self.handles.len() <= HANDLES_MOST => pair[0].1.max(pair[1].1),
+            _ => HANDLES_MOST as u64 + 1,
+        };
         at_line(14, line)
     }
 }

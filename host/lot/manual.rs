@@ -5,7 +5,7 @@ use std::ffi::{OsStr, OsString};
 use std::fmt::Write as _;
 
 use crate::commands::{COMMANDS, GROUPS};
-use crate::said::{Outcome, Said, Trouble};
+use crate::said::{meaning, Outcome, Said, Trouble};
 use crate::text::shown;
 use crate::words::{Choice, Command};
 
@@ -156,9 +156,7 @@ fn page() -> Vec<Part> {
     parts.extend(STATUSES.iter().map(|(status, text)| Item(status.to_string(), text.to_string())));
     parts.push(Section("REFUSALS"));
     parts.push(Text(REFUSALS.to_string()));
-    parts.extend(
-        (1..=25).map(|number| Item(number.to_string(), lotlog::meaning(number).to_string())),
-    );
+    parts.extend((1..=25).map(|number| Item(number.to_string(), meaning(number).to_string())));
     parts.extend([Section("EXAMPLES"), Lines(EXAMPLES), Section("FILES")]);
     parts.extend(FILES.iter().map(|(name, text)| Item(name.to_string(), text.to_string())));
     parts
@@ -192,9 +190,8 @@ const DESCRIPTION: [&str; 5] = [
 ];
 
 const REFUSALS: &str =
-    "The numbers of a refusal and their meanings. 12 is printed by lot audit as \
-                        wrong N, with its number on standard error; 6 is a van's key that has not \
-                        32 bytes.";
+    "The numbers of a refusal and their meanings. 12 is printed by lot audit as wrong N, with its number \
+     on standard error.";
 
 const EXAMPLES: &str = "lot init store.lot --log 7 --room 100000
 lot append store.lot delivery.txt

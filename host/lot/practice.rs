@@ -5,7 +5,7 @@ use std::ffi::OsStr;
 use lotlog::file::{create_held, replace_held};
 use lotlog::{Digest, Held, Side, HELD_BYTES, HELD_FILE_MOST, LEVELS, PROOF_MOST};
 
-use crate::files::{read_first, Output};
+use crate::files::{must_be_one, read_first, Output};
 use crate::house::{done, done_alone, ENTRY_MOST};
 use crate::json::Value;
 use crate::said::{Call, Outcome, Said, Stop, Trouble, FALSE};
@@ -134,6 +134,7 @@ impl Claim<'_> {
 }
 
 pub fn verify(words: &Words, _: &Teller) -> Outcome {
+    must_be_one(&words.names_from(0))?;
     let told = (words.chosen_number("--at")?, words.chosen("--digest"));
     let (of, digest, first) = match (told, words.count()) {
         ((None, None), 4) => {
@@ -173,7 +174,8 @@ fn unknown(name: &OsStr, at: u64, digests: &[(u64, Digest)]) -> Trouble {
 pub fn dispute(words: &Words, _: &Teller) -> Outcome {
     let (element, of) = (words.number(words.word(0))?, words.number(words.word(1))?);
     let digest = words.digest(words.word(2))?;
-    let inputs: Vec<&OsStr> = words.words_from(3).iter().map(|name| &name[..]).collect();
+    let inputs = words.names_from(3);
+    must_be_one(&inputs)?;
     let outputs = words.needed("-o")?;
     let outs = [Output::of(&outputs[0], &inputs)?, Output::of(&outputs[1], &inputs)?];
     if outputs[0] == outputs[1] || outputs.iter().any(|name| name == "-") {

@@ -52,8 +52,8 @@ impl Said {
         self
     }
 
-    pub fn aside(mut self, line: String) -> Said {
-        self.aside = Some(line);
+    pub fn aside(mut self, line: impl Into<Option<String>>) -> Said {
+        self.aside = line.into();
         self
     }
 
@@ -66,15 +66,17 @@ impl Said {
     /// A refusal of the library, with its number, its meaning and its place.
     pub fn refused(answer: Answer, call: Call) -> Said {
         let [first, element, level] = answer.beside;
-        let refused = Said::good(format!("refused {}: {}", answer.number, answer.meaning()))
+        let meaning = meaning(answer.number);
+        let refused = Said::good(format!("refused {}: {}", answer.number, meaning))
             .status(status_of(answer.number, call))
             .with("refused", answer.number)
-            .with("meaning", lotlog::meaning(answer.number));
+            .with("meaning", meaning);
         let after = format!(", after {}", hops(first));
         match answer.number {
-            9 => refused.at(&after).with("element", element).with("row", level).with("hops", first),
-            10 => {
-                refused.at(&after).with("element", element).with("level", level).with("hops", first)
+            9 | 10 => {
+                let kind = if answer.number == 9 { "row" } else { "level" };
+                let place = format!(" at element {}, {} {}{}", element, kind, level, after);
+                refused.at(&place).with("element", element).with(kind, level).with("hops", first)
             }
             11 => refused.at(&after).with("hops", first),
             12 => refused.at(&format!(" at element {}", first)).with("element", first),
@@ -87,6 +89,14 @@ impl Said {
     /// A refusal that has nothing beside its number.
     pub fn refused_with(number: u64, call: Call) -> Said {
         Said::refused(Answer { number, beside: [0; 3] }, call)
+    }
+}
+
+/// Words for a refusal. All that the command lends for output is long enough, so 6 is the van's key.
+pub fn meaning(number: u64) -> &'static str {
+    match number {
+        6 => "van's key not of 32 bytes",
+        _ => lotlog::meaning(number),
     }
 }
 

@@ -7,17 +7,24 @@ use std::io::{self, ErrorKind};
 use lotlog::file::seal_to;
 use lotlog::{Digest, CLOSING};
 
-use crate::files::{must_differ, read, read_first};
+use crate::files::{must_be_one, must_differ, read, read_first};
 use crate::house::{done, ENTRY_MOST};
 use crate::said::{Call, Outcome, Said, Stop, Trouble, DAMAGED};
 use crate::teller::Teller;
+use crate::text::shown;
 use crate::words::Words;
 
 /// The bytes of a key.
 const KEY: usize = 32;
 
-/// Seals an entry; gives its number, and the bytes of its data.
-fn sealed(words: &Words, kind: u32, data: Option<&OsStr>) -> Result<(u64, u64), Stop> {
+/// What was sealed: the entry's number, the bytes of its data, and what there is to say besides.
+struct Sealed {
+    entry: u64,
+    bytes: u64,
+    aside: Option<String>,
+}
+
+fn sealed(words: &Words, kind: u32, data: Option<&OsStr>) -> Result<Sealed, Stop> {
     let (name, key) = (words.word(0), &words.needed("--key")?[0][..]);
     let (log, key_path) = (words.own(name)?, words.own(key)?);
     must_differ(key, &[Some(name), data])?;
@@ -32,9 +39,9 @@ fn sealed(words: &Words, kind: u32, data: Option<&OsStr>) -> Result<(u64, u64), 
         let is_key = error.kind() == ErrorKind::WouldBlock;
         Trouble::with_file(if is_key { key } else { name }, &error)
     })?;
+    let [entry, torn, _] = answer.beside;
     match answer.number {
-        0 => Ok((answer.beside[0], data.len() as u64)),
-        6 => Err(wrong_key().into()),
+        0 => Ok(Sealed { entry, bytes: data.len() as u64, aside: about_torn(name, torn) }),
         24 => Err(Said::refused(answer, Call::Makes).status(DAMAGED).into()),
         _ => Err(Said::refused(answer, Call::Makes).into()),
     }
@@ -45,13 +52,11 @@ fn must_open(name: &OsStr) -> io::Result<()> {
     OpenOptions::new().read(true).write(true).open(name).map(|_| ())
 }
 
-/// What is lent as output is long enough, so that 6 is the key's.
-fn wrong_key() -> Said {
-    let meaning = "van's key not of 32 bytes";
-    Said::good(format!("refused 6: {}", meaning))
-        .status(DAMAGED)
-        .with("refused", 6)
-        .with("meaning", meaning)
+/// What is said of bytes that were no whole entry.
+fn about_torn(name: &OsStr, torn: u64) -> Option<String> {
+    let name = shown(name);
+    let found = format!("{}: {} bytes at its end were no whole entry", name, torn);
+    Some(format!("{}: they are in {}.torn now", found, name)).filter(|_| torn > 0)
 }
 
 pub fn seal(words: &Words, _: &Teller) -> Outcome {
@@ -60,20 +65,21 @@ pub fn seal(words: &Words, _: &Teller) -> Outcome {
     if kind == CLOSING {
         return Err(words.wrong("type 1 closes the log: that is lot seal-close").into());
     }
-    let (entry, bytes) = sealed(words, kind, Some(words.word(1)))?;
+    let Sealed { entry, bytes, aside } = sealed(words, kind, Some(words.word(1)))?;
     let said = Said::good(format!("entry {}, type {}, {} bytes of data", entry, kind, bytes));
-    Ok(said.with("entry", entry).with("type", number).with("bytes", bytes))
+    Ok(said.with("entry", entry).with("type", number).with("bytes", bytes).aside(aside))
 }
 
 pub fn seal_close(words: &Words, _: &Teller) -> Outcome {
     let data = words.words_from(1).first().map(|data| &data[..]);
-    let (entry, _) = sealed(words, CLOSING, data)?;
+    let Sealed { entry, aside, .. } = sealed(words, CLOSING, data)?;
     let said = Said::good(format!("entry {}, closed", entry));
-    Ok(said.with("entry", entry).with("type", u64::from(CLOSING)))
+    Ok(said.with("entry", entry).with("type", u64::from(CLOSING)).aside(aside))
 }
 
 pub fn seal_check(words: &Words, _: &Teller) -> Outcome {
     let key = &words.needed("--first-key")?[0];
+    must_be_one(&[key, words.word(0)])?;
     let first_key: Digest = match read_first(key, KEY + 1)?.try_into() {
         Ok(first_key) => first_key,
         Err(_) => return Err(Trouble::of(key, "a key has 32 bytes").into()),

@@ -81,11 +81,14 @@ impl Words {
         word: &OsStr,
         left: &mut impl Iterator<Item = &'a OsString>,
     ) -> Result<(), Trouble> {
-        match word.as_bytes() {
-            b"--json" => self.json = true,
-            b"-q" | b"--quiet" => self.quiet = true,
-            b"-h" | b"--help" => self.help = true,
+        let (flag, name) = match word.as_bytes() {
+            b"--json" => (&mut self.json, "--json"),
+            b"-q" | b"--quiet" => (&mut self.quiet, "-q"),
+            b"-h" | b"--help" => (&mut self.help, "-h"),
             _ => return self.take_choice(word, left),
+        };
+        if std::mem::replace(flag, true) {
+            return Err(self.trouble(format!("{} is given twice", name)));
         }
         Ok(())
     }
@@ -141,6 +144,11 @@ impl Words {
 
     pub fn words_from(&self, at: usize) -> &[OsString] {
         &self.plain[at..]
+    }
+
+    /// The same as names of files.
+    pub fn names_from(&self, at: usize) -> Vec<&OsStr> {
+        self.plain[at..].iter().map(|name| &name[..]).collect()
     }
 
     /// The values of an option, if it is given.

@@ -3,11 +3,11 @@
 //! out and moves the key.
 
 use std::fs::{self, File, OpenOptions};
-use std::io::{self, ErrorKind, Read};
+use std::io::{self, ErrorKind, Read, Write};
 use std::os::unix::fs::FileExt;
 use std::path::Path;
 
-use super::super::{clear_stack, seal_add, Answer, Digest, SEALED_BESIDE};
+use super::super::{clear_stack, seal_add, Answer, Digest, CLOSING, SEALED_BESIDE};
 use super::{place, read_all, seated};
 
 /// The bytes of an entry's type and length, and the most bytes of its data.
@@ -19,13 +19,15 @@ const KEY: usize = 32;
 
 /// Seals an entry behind a van's log, which is made if it is not there, and overwrites the key, in its
 /// place in the file of 32 bytes, with the next one, or with zeros if the type is 1; returns when both
-/// are safe on the disk. Answers the entry's number, from 0. Refusals: 3, 6, 23, and before these 24
-/// with the number of an entry in the log whose length none can have; then nothing is sealed.
+/// are safe on the disk. Answers the entry's number, from 0, and how many bytes it found behind the
+/// last whole entry: these are moved to a file beside the log, under its name and `.torn`, behind what
+/// stands there. Refusals: 3, 6, 23, also where the log is closed and the key is not, and before these
+/// 24 with the number of an entry in the log whose length none can have; then nothing is sealed.
 ///
 /// At every moment the log is the one before or the new one, perhaps with a part of the new entry
-/// behind it, which the next call drops; and with the next call the key is that of the log. That
-/// another process is sealing with this key is an error of the kind `WouldBlock`. After an error of the
-/// system the entry is sealed or it is not; in the log it is there whole or not at all.
+/// behind it; and with the next call the key is that of the log. That another process is sealing with
+/// this key is an error of the kind `WouldBlock`. After an error of the system the entry is sealed or
+/// it is not; in the log it is there whole or not at all.
 #[inline]
 pub fn seal_to(log: &Path, key: &Path, kind: u32, data: &[u8]) -> io::Result<Answer> {
     let key_file = seated(key, OpenOptions::new().read(true).write(true))?;
@@ -38,15 +40,21 @@ pub fn seal_to(log: &Path, key: &Path, kind: u32, data: &[u8]) -> io::Result<Ans
     if walked.last.map_or(false, |last| key.moves_over(last)) {
         key.store(&key_file)?;
     }
+    if walked.is_closed {
+        // a key that is not of this log does not open it
+        key.bytes = [0; KEY + 1];
+    }
     let mut chain = walked.chain;
     let mut out = vec![0; data.len() + SEALED_BESIDE];
     let answer = key.seal(&mut chain, kind, data, &mut out);
-    if answer.number == 0 {
-        put_behind(log, walked.whole, &out, bytes.is_none())?;
-        key.store(&key_file)?;
-        return Ok(Answer { number: 0, beside: [walked.entries, 0, 0] });
+    if answer.number != 0 {
+        return Ok(answer);
     }
-    Ok(answer)
+    let torn = bytes.as_deref().map_or(&[][..], |bytes| &bytes[walked.whole..]);
+    keep_torn(log, torn)?;
+    put_behind(log, walked.whole, &out, bytes.is_none())?;
+    key.store(&key_file)?;
+    Ok(Answer { number: 0, beside: [walked.entries, torn.len() as u64, 0] })
 }
 
 /// The log's bytes, if it is there.
@@ -72,13 +80,15 @@ struct Walked<'a> {
     whole: usize,
     last: Option<Entry<'a>>,
     chain: Digest,
+    is_closed: bool,
 }
 
 /// Reads a log; what it has behind its last whole entry is a part of one. Where an entry's length is
 /// over the most, the log is no van's, and the entry's number comes back.
 #[inline]
 fn walk(log: &[u8]) -> Result<Walked<'_>, u64> {
-    let mut walked = Walked { entries: 0, whole: 0, last: None, chain: [0; 32] };
+    let chain = [0; 32];
+    let mut walked = Walked { entries: 0, whole: 0, last: None, chain, is_closed: false };
     // the library says what the chain becomes; it does not depend on the key
     let mut out = [0; DATA_MOST + SEALED_BESIDE];
     while let Some(head) = log[walked.whole..].get(..HEAD) {
@@ -94,6 +104,7 @@ fn walk(log: &[u8]) -> Result<Walked<'_>, u64> {
         let entry = Entry { before: walked.chain, kind, data: &bytes[HEAD..HEAD + length], bytes };
         let _ = seal_add(&mut [1; KEY], &mut walked.chain, kind, entry.data, &mut out);
         walked.last = Some(entry);
+        walked.is_closed |= kind == CLOSING;
         walked.entries += 1;
         walked.whole += bytes.len();
     }
@@ -159,11 +170,24 @@ impl Drop for Key {
     }
 }
 
+/// Keeps what stands behind the last whole entry of a log: a part of an entry that was cut off, or of
+/// a log that somebody has changed, which the office should see.
+fn keep_torn(log: &Path, torn: &[u8]) -> io::Result<()> {
+    if torn.is_empty() {
+        return Ok(());
+    }
+    let path = place::next_to(log, ".torn");
+    let mut file = OpenOptions::new().append(true).create(true).open(&path)?;
+    file.write_all(torn)?;
+    file.sync_all()?;
+    place::sync_folder(&path.canonicalize()?)
+}
+
 /// Puts an entry behind the whole part of a log; of one that can't be written nothing is left, nor of
 /// a log that is new.
 fn put_behind(log: &Path, whole: usize, entry: &[u8], is_new: bool) -> io::Result<()> {
     let file = OpenOptions::new().write(true).create(true).open(log)?;
-    // what is left of an entry that was cut off
+    // what stands behind it is kept elsewhere by now
     file.set_len(whole as u64)?;
     let written = file.write_all_at(entry, whole as u64).and_then(|()| file.sync_all());
     if written.is_err() {
