@@ -18,8 +18,8 @@ const WIDTH: u64 = 30;
 
 pub struct Bar {
     is_wanted: bool,
-    /// Whether lines of the answer go to a terminal too: then the bar makes room for each, and is drawn
-    /// anew below it.
+    /// Whether lines of the answer go to a terminal too: then the bar makes room for each, and is
+    /// drawn anew below it.
     among_lines: bool,
     began: Instant,
     drawn: Option<Instant>,

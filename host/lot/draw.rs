@@ -89,8 +89,8 @@ pub fn draw(words: &Words, _: &Teller) -> Outcome {
     }
 }
 
-/// Why there is no path between two positions, if there is none. The library says it: where there is a
-/// path it refuses the proof, which is empty.
+/// Why there is no path between two positions, if there is none. The library says it: where there
+/// is a path it refuses the proof, which is empty.
 fn no_path(element: u64, of: u64) -> Option<Answer> {
     let asked = lotlog::check_membership(&[], element, of, &[0; 32], &[]);
     Some(asked).filter(|asked| asked.number == 4)

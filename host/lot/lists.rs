@@ -43,8 +43,8 @@ impl List {
         self.handles.iter().flat_map(|(handle, _)| *handle).collect()
     }
 
-    /// The refusal of this list, with the line that is to blame: the first one too many, or one that
-    /// does not rise.
+    /// The refusal of this list, with the line that is to blame: the first one too many, or one
+    /// that does not rise.
     fn refused(&self) -> Said {
         let falls = self.handles.windows(2).find(|pair| pair[0].0 >= pair[1].0);
         let line = match falls {

@@ -92,7 +92,8 @@ impl Said {
     }
 }
 
-/// Words for a refusal. All that the command lends for output is long enough, so 6 is the van's key.
+/// Words for a refusal. All that the command lends for output is long enough, so 6 is the van's
+/// key.
 pub fn meaning(number: u64) -> &'static str {
     match number {
         6 => "van's key not of 32 bytes",
