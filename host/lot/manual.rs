@@ -32,8 +32,8 @@ const STATUSES: [(&str, &str); 4] = [
     ("0", "good"),
     (
         "1",
-        "looked at and not so: a proof that is not accepted, a wrong T, a difference, a kind of proof \
-         that is not true",
+        "looked at and not so: a proof that is not accepted, a wrong T, a difference, a kind of \
+         proof that is not true",
     ),
     ("2", "usage; a file that can't be read or written; a number or an entry that can't be taken"),
     ("3", "the caller's own store, held file, list, or van's log or key is damaged or refuses"),
@@ -190,8 +190,8 @@ const DESCRIPTION: [&str; 5] = [
 ];
 
 const REFUSALS: &str =
-    "The numbers of a refusal and their meanings. 12 is printed by lot audit as wrong N, with its number \
-     on standard error.";
+    "The numbers of a refusal and their meanings. 12 is printed by lot audit as wrong N, with its \
+     number on standard error.";
 
 const EXAMPLES: &str = "lot init store.lot --log 7 --room 100000
 lot append store.lot delivery.txt
@@ -205,7 +205,8 @@ lot verify held 1 delivery.txt proof";
 const FILES: [(&str, &str); 3] = [
     (
         "STORE",
-        "16 bytes, and 65 for each element there is room for; STORE.growing beside it while it grows",
+        "16 bytes, and 65 for each element there is room for; STORE.growing beside it while it \
+         grows",
     ),
     (
         "HELD",
