@@ -1,13 +1,14 @@
 //! A store in a file, call by call: files FOLDER. Every answer, every error and every byte of the file
 //! after it; what is flushed when; a flush or a reservation that fails; two writers; readers beside a
 //! writer that goes on appending and growing; and ends in the middle of making and growing a store.
-//! And a held state in a file, which `held.rs` looks at.
+//! And a held state in a file, which `held.rs` looks at, and a van's log in one, which `van.rs` does.
 
 mod expected;
 mod held;
 #[allow(dead_code)] // the program that ends processes uses the rest
 mod process;
 mod system;
+mod van;
 
 use std::io::ErrorKind;
 use std::os::unix::fs::{symlink, MetadataExt, PermissionsExt};
@@ -451,5 +452,6 @@ fn main() {
          file, of {} ends while one grows {} left an unfinished one",
         tests.looked_at, ENDS, made, ENDS, unfinished
     );
-    held::look(&mut Tests { folder: tests.folder, looked_at: 0 });
+    held::look(&mut Tests { folder: tests.folder.clone(), looked_at: 0 });
+    van::look(&mut Tests { folder: tests.folder, looked_at: 0 });
 }

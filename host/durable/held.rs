@@ -1,12 +1,14 @@
 //! A held state in a file: what `save_held` leaves and `load_held` gives, by the second program. States
 //! at many counts; one that is not in order; what is there already: an older state, a leftover, a
 //! link, no folder, no file; what is done in which order; a write, a flush or a rename that fails; a
-//! second saver at every moment that matters; damaged files; and ends in the middle of saving.
+//! second saver at every moment that matters; damaged files; and ends in the middle of saving. And the
+//! same of `create_held`, which leaves what is there, and of `replace_held`, which leaves what is not
+//! the state that it was told of, also if another process puts it there at the last moment.
 
 use std::ffi::{CString, OsString};
 use std::io::ErrorKind;
 use std::os::raw::{c_char, c_int};
-use std::os::unix::ffi::OsStrExt;
+use std::os::unix::ffi::{OsStrExt, OsStringExt};
 use std::os::unix::fs::{symlink, MetadataExt, PermissionsExt};
 use std::path::{Path, PathBuf};
 use std::sync::atomic::{AtomicU64, Ordering::SeqCst};
@@ -16,7 +18,7 @@ use compare::damage::bit_turned;
 use compare::logs::{read, sound};
 use compare::random::{fresh_seed, Random};
 use compare::second_calls::held_bytes;
-use lotlog::file::{load_held, save_held, Error};
+use lotlog::file::{create_held, load_held, replace_held, save_held, Error};
 use lotlog::{HELD_FILE_LEAST, HELD_FILE_MOST};
 use second::hash::Sha256;
 use second::held::{held_of, held_start, in_use, Held, ROWS};
@@ -29,6 +31,11 @@ use crate::{beside, end_in_the_middle, finds_no_space, Tests, ENDS};
 
 extern "C" {
     fn mkfifo(path: *const c_char, rights: u32) -> c_int;
+}
+
+fn make_pipe(path: &Path) {
+    let name = CString::new(path.as_os_str().as_bytes()).expect("a name");
+    assert_eq!(unsafe { mkfifo(name.as_ptr(), 0o600) }, 0, "a pipe");
 }
 
 /// The states of one log at every count up to the last.
@@ -60,8 +67,30 @@ fn save(path: &Path, state: &Held) -> Result<(), Error> {
     save_held(path, &held_bytes(state))
 }
 
+fn create(path: &Path, state: &Held) -> Result<(), Error> {
+    create_held(path, &held_bytes(state))
+}
+
+fn replace(path: &Path, before: &Held, state: &Held) -> Result<(), Error> {
+    replace_held(path, &held_bytes(before), &held_bytes(state))
+}
+
+/// Whether a call failed with an error of the system of that kind.
+pub(crate) fn fails_with<T>(result: Result<T, Error>, kind: ErrorKind) -> bool {
+    matches!(result, Err(Error::System(error)) if error.kind() == kind)
+}
+
+/// Whether some work is done well by a process that the rights of files hold back, whoever runs this.
+pub(crate) fn by_its_rights(work: impl FnOnce()) -> bool {
+    let obeying = Process::begin(|| {
+        system::obey_rights();
+        work();
+    });
+    obeying.ends_well()
+}
+
 /// The names in a folder, and the file that each stands for.
-fn names(folder: &Path) -> Vec<(OsString, u64)> {
+pub(crate) fn names(folder: &Path) -> Vec<(OsString, u64)> {
     let mut names: Vec<_> = fs::read_dir(folder)
         .expect("the folder")
         .map(|entry| entry.expect("a name"))
@@ -71,9 +100,27 @@ fn names(folder: &Path) -> Vec<(OsString, u64)> {
     names
 }
 
+/// All of a folder: its names, the file that each stands for, its rights, and its bytes or where it
+/// leads.
+pub(crate) fn everything(folder: &Path) -> Vec<(OsString, u64, u32, Vec<u8>)> {
+    let with_all = |(name, file): (OsString, u64)| {
+        let path = folder.join(&name);
+        let kind = fs::symlink_metadata(&path).expect("a file");
+        let holds = if kind.is_symlink() {
+            fs::read_link(&path).expect("a link").into_os_string().into_vec()
+        } else if kind.is_file() {
+            fs::read(&path).expect("a file")
+        } else {
+            vec![]
+        };
+        (name, file, kind.mode(), holds)
+    };
+    names(folder).into_iter().map(with_all).collect()
+}
+
 impl Tests {
     /// A folder of its own.
-    fn folder(&self, name: &str) -> PathBuf {
+    pub(crate) fn folder(&self, name: &str) -> PathBuf {
         let folder = self.path(name);
         fs::create_dir(&folder).expect("a new folder");
         fs::canonicalize(folder).expect("the folder")
@@ -92,6 +139,35 @@ impl Tests {
         self.look("a new file", save(&path, state).is_ok());
         self.has_saved("a new file", &path, state);
         path
+    }
+
+    /// Looks whether a call saves a state by the bytes, their flush, the name and its flush.
+    fn saves(&mut self, path: &Path, state: &Held, call: impl FnOnce() -> Result<(), Error>) {
+        system::steps();
+        self.look("it is saved", call().is_ok());
+        let steps = [
+            Step::Written(saving(path), file_of(state)),
+            Step::Flushed(saving(path)),
+            Step::Renamed(saving(path), path.to_path_buf()),
+            Step::Flushed(path.parent().expect("a folder").to_path_buf()),
+        ];
+        self.look("the steps", system::steps() == steps);
+        self.has_saved("the state", path, state);
+    }
+
+    /// Looks whether a call fails with an error of that kind, before its first step, and leaves all of
+    /// a folder as it was.
+    fn leaves_all(
+        &mut self,
+        folder: &Path,
+        kind: ErrorKind,
+        call: impl FnOnce() -> Result<(), Error>,
+    ) {
+        let before = everything(folder);
+        system::steps();
+        self.fails("it is told", call(), kind);
+        self.look("no step is made", system::steps().is_empty());
+        self.look("all is as it was", everything(folder) == before);
     }
 }
 
@@ -121,7 +197,13 @@ fn not_in_order(tests: &mut Tests) {
     for bad in [row, over, start] {
         system::steps();
         tests.refused("a state not in order", save(&path, &bad), 2);
-        tests.refused("a state not in order", save(&folder.join("new"), &bad), 2);
+        let new = folder.join("new");
+        tests.refused("a state not in order", save(&new, &bad), 2);
+        for path in [&path, &new] {
+            tests.refused("to be made", create(path, &bad), 2);
+            tests.refused("to be put there", replace(path, &good, &bad), 2);
+            tests.refused("to be replaced", replace(path, &bad, &good), 2);
+        }
         tests.look("no step is made", system::steps().is_empty());
         tests.look("the folder is as it was", names(folder) == before);
         tests.look("the file too", fs::read(&path).expect("the file") == file_of(&good));
@@ -134,28 +216,23 @@ fn in_this_order(tests: &mut Tests) {
     let folder = tests.folder("held-order");
     let path = folder.join("held");
     for state in [made_up(3), made_up(LIMIT), made_up(0)] {
-        system::steps();
-        tests.look("it is saved", save(&path, &state).is_ok());
-        let steps = [
-            Step::Written(saving(&path), file_of(&state)),
-            Step::Flushed(saving(&path)),
-            Step::Renamed(saving(&path), path.clone()),
-            Step::Flushed(folder.clone()),
-        ];
-        tests.look("the steps", system::steps() == steps);
+        tests.saves(&path, &state, || save(&path, &state));
     }
 }
 
-/// What can fail on the way. When the last flush fails, that of the name, the new file has it already.
+/// What can fail on the way, and whether the new file has the name then: when the last flush fails, that
+/// of the name, it has it already.
+const WAYS: [(fn(), bool); 4] = [
+    (|| system::fail_write(1), false),
+    (|| system::fail_file_flush(1), false),
+    (|| system::fail_rename(1), false),
+    (|| system::fail_file_flush(2), true),
+];
+
+/// Saving that fails leaves the state before, or no file, and then it is saved.
 fn failing(tests: &mut Tests) {
-    let ways: [(fn(), bool); 4] = [
-        (|| system::fail_write(1), false),
-        (|| system::fail_file_flush(1), false),
-        (|| system::fail_rename(1), false),
-        (|| system::fail_file_flush(2), true),
-    ];
     let [old, new] = [7, 8].map(made_up);
-    for (number, (fail, is_new)) in ways.into_iter().enumerate() {
+    for (number, (fail, is_new)) in WAYS.into_iter().enumerate() {
         let path = tests.saved(&format!("held-fail-{}", number), &old);
         fail();
         tests.look("it is told", matches!(save(&path, &new), Err(Error::System(_))));
@@ -226,8 +303,7 @@ fn other_names(tests: &mut Tests) {
 
     let [inner, pipe] = ["inner", "pipe"].map(|name| folder.join(name));
     fs::create_dir(&inner).expect("a new folder");
-    let name = CString::new(pipe.as_os_str().as_bytes()).expect("a name");
-    tests.look("a pipe", unsafe { mkfifo(name.as_ptr(), 0o600) } == 0);
+    make_pipe(&pipe);
     let before = names(&folder);
     let state = made_up(2);
     let nowhere = folder.join("no/held");
@@ -320,30 +396,316 @@ fn damaged(tests: &mut Tests) {
     }
 }
 
+/// A file is made where there is none, whatever an earlier attempt left beside; not once more.
+fn creating(tests: &mut Tests) {
+    let folder = tests.folder("held-create");
+    for (count, left) in [(0, None), (3, Some(0)), (5, Some(1)), (LIMIT, Some(5_000))] {
+        let (path, state) = (folder.join(count.to_string()), made_up(count));
+        if let Some(left) = left {
+            fs::write(saving(&path), vec![0xEE; left]).expect("a file");
+        }
+        tests.saves(&path, &state, || create(&path, &state));
+        for other in [&state, &made_up(1)] {
+            tests.leaves_all(&folder, ErrorKind::AlreadyExists, || create(&path, other));
+        }
+    }
+    let path = folder.join("0");
+    fs::write(saving(&path), b"left").expect("a file");
+    tests.fails("it is there", create(&path, &made_up(1)), ErrorKind::AlreadyExists);
+    tests.look("it stays", fs::read(&path).expect("the file") == file_of(&made_up(0)));
+}
+
+/// What may stand in a file's place: a state, an empty file, a folder, a pipe, and a file that may not be
+/// written.
+const THERE: [&str; 5] = ["state", "empty", "inner", "pipe", "fixed"];
+
+/// Makes one of each, a link to each, and a link that leads nowhere.
+fn make_all_kinds(folder: &Path) {
+    let [state, empty, inner, pipe, fixed] = THERE.map(|name| folder.join(name));
+    save(&state, &made_up(7)).expect("a state");
+    fs::write(empty, b"").expect("a file");
+    fs::create_dir(inner).expect("a new folder");
+    make_pipe(&pipe);
+    fs::write(&fixed, b"fixed").expect("a file");
+    fs::set_permissions(&fixed, fs::Permissions::from_mode(0o444)).expect("its rights");
+    for name in THERE {
+        symlink(name, folder.join(format!("to-{}", name))).expect("a link");
+    }
+    symlink("no such file", folder.join("nowhere")).expect("a link");
+}
+
+/// What stands where a file is to be made stays, and what a link leads to; and nothing is made where a link
+/// leads nowhere or there is no folder.
+fn creating_over(tests: &mut Tests) {
+    let folder = tests.folder("held-create-over");
+    make_all_kinds(&folder);
+    let state = made_up(2);
+    for name in THERE.into_iter().flat_map(|name| [name.to_string(), format!("to-{}", name)]) {
+        let path = folder.join(name);
+        tests.leaves_all(&folder, ErrorKind::AlreadyExists, || create(&path, &state));
+    }
+    for name in ["nowhere", "no/held"] {
+        let path = folder.join(name);
+        tests.leaves_all(&folder, ErrorKind::NotFound, || create(&path, &state));
+    }
+    let (before, fixed) = (everything(&folder), folder.join("fixed"));
+    let held_back = || assert!(fails_with(create(&fixed, &state), ErrorKind::AlreadyExists));
+    tests.look("it may not be written", by_its_rights(held_back));
+    tests.look("all is as it was", everything(&folder) == before);
+}
+
+/// Making that fails leaves no file, and then one can be made; where the last flush fails it is there.
+fn failing_creation(tests: &mut Tests) {
+    let state = made_up(8);
+    for (number, (fail, is_new)) in WAYS.into_iter().enumerate() {
+        let folder = tests.folder(&format!("held-create-fail-{}", number));
+        let path = folder.join("held");
+        fail();
+        tests.look("it is told", matches!(create(&path, &state), Err(Error::System(_))));
+        tests.look("no file, or the new one", names(&folder).len() == usize::from(is_new));
+        if is_new {
+            tests.leaves_all(&folder, ErrorKind::AlreadyExists, || create(&path, &state));
+        } else {
+            tests.saves(&path, &state, || create(&path, &state));
+        }
+        tests.has_saved("the state", &path, &state);
+    }
+}
+
+/// Lets something happen when the next call has begun and has not its lock yet: in this process or in
+/// another, and with a leftover beside the file then, or without.
+fn meanwhile(path: &Path, (in_another, leaves): (bool, bool), work: impl Fn() + Send + 'static) {
+    let path = path.to_path_buf();
+    system::before_lock(move || {
+        if in_another {
+            assert!(Process::begin(&work).ends_well(), "the other process");
+        } else {
+            work();
+        }
+        if leaves {
+            fs::write(saving(&path), [0xEE; 900]).expect("a file");
+        }
+    });
+}
+
+/// Where and how something happens meanwhile.
+const MEANWHILE: [(bool, bool); 4] = [(false, false), (false, true), (true, false), (true, true)];
+
+/// Another makes the file, or saves one there, when the first has begun and has not the lock yet: the
+/// first is told, and leaves it.
+fn created_meanwhile(tests: &mut Tests) {
+    let [state, others] = [7, 8].map(made_up);
+    for (name, call) in [("create", create as fn(&Path, &Held) -> _), ("save", save)] {
+        for (number, how) in MEANWHILE.into_iter().enumerate() {
+            let path = tests.folder(&format!("held-{}-meanwhile-{}", name, number)).join("held");
+            let (same, other) = (path.clone(), others.clone());
+            meanwhile(&path, how, move || assert!(call(&same, &other).is_ok()));
+            let created = create(&path, &state);
+            tests.fails("it is there by now", created, ErrorKind::AlreadyExists);
+            tests.has_saved("the other's state", &path, &others);
+        }
+    }
+}
+
+/// Each state in the place of the one before, by the steps of saving, and at last by itself; also where
+/// a link leads.
+fn replacing(tests: &mut Tests) {
+    let mut states = of_a_log(70);
+    states.extend((0..ROWS).flat_map(|row| [1 << row, LIMIT >> row].map(made_up)));
+    states.push(made_up(LIMIT));
+    states.push(made_up(LIMIT));
+    let path = tests.saved("held-replace", &states[0]);
+    let folder = path.parent().expect("a folder");
+    fs::set_permissions(&path, fs::Permissions::from_mode(0o640)).expect("its rights");
+    for pair in states.windows(2) {
+        tests.saves(&path, &pair[1], || replace(&path, &pair[0], &pair[1]));
+    }
+    tests.look("its rights", fs::metadata(&path).expect("the file").mode() & 0o777 == 0o640);
+
+    let link = tests.folder("held-replace-link").join("link");
+    symlink(&path, &link).expect("a link");
+    fs::write(saving(&path), [0xEE; 5_000]).expect("a file");
+    tests.saves(&path, &made_up(2), || replace(&link, &made_up(LIMIT), &made_up(2)));
+    tests.look("it is a link still", link.is_symlink());
+    tests.look("one name", names(folder).len() == 1);
+}
+
+/// Files that hold anything else than a state's: one bit of any byte turned, every part of it, some bytes
+/// more, and other states.
+fn others_than(state: &Held) -> Vec<Vec<u8>> {
+    let good = file_of(state);
+    let mut others: Vec<_> = (0..good.len()).map(|at| bit_turned(&good, 8 * at + at % 8)).collect();
+    others.extend((0..good.len()).map(|length| good[..length].to_vec()));
+    others.extend([1, 32, 1 << 20].map(|more| [&good[..], &vec![0; more]].concat()));
+    others.extend([state.count - 1, state.count + 1, 0, LIMIT].map(|at| file_of(&made_up(at))));
+    others
+}
+
+/// What is not the state that it was told of is not replaced, and of a long file no more is read than
+/// shows that; nor is anything put where there is no file.
+fn replacing_another(tests: &mut Tests) {
+    let [before, state] = [5, 6].map(made_up);
+    let folder = tests.folder("held-replace-another");
+    let path = folder.join("held");
+    for other in others_than(&before) {
+        fs::write(&path, &other).expect("a file");
+        tests.leaves_all(&folder, ErrorKind::Other, || {
+            system::bytes_read();
+            let replaced = replace(&path, &before, &state);
+            let enough = other.len().min(file_of(&before).len() + 1);
+            assert_eq!(system::bytes_read(), enough, "its first bytes are read");
+            replaced
+        });
+    }
+    fs::remove_file(&path).expect("the file");
+    tests.leaves_all(&folder, ErrorKind::NotFound, || replace(&path, &before, &state));
+    symlink("no such file", &path).expect("a link");
+    tests.leaves_all(&folder, ErrorKind::NotFound, || replace(&path, &before, &state));
+    let nowhere = folder.join("no/held");
+    tests.leaves_all(&folder, ErrorKind::NotFound, || replace(&nowhere, &before, &state));
+
+    fs::remove_file(&path).expect("the link");
+    fs::create_dir(&path).expect("a new folder");
+    let kept = everything(&folder);
+    let failed = replace(&path, &before, &state);
+    tests.look("a folder", matches!(failed, Err(Error::System(_))));
+    tests.look("all is as it was", everything(&folder) == kept);
+}
+
+/// A file that may not be written is not replaced, nor one that may not be read.
+fn replacing_by_its_rights(tests: &mut Tests) {
+    let [before, state] = [5, 6].map(made_up);
+    let path = tests.saved("held-replace-rights", &before);
+    let folder = path.parent().expect("a folder");
+    for rights in [0o444, 0o200, 0] {
+        let set = |mode| fs::set_permissions(&path, fs::Permissions::from_mode(mode));
+        set(0o600).expect("its rights");
+        let kept = everything(folder);
+        set(rights).expect("its rights");
+        let held_back = || {
+            let replaced = replace(&path, &before, &state);
+            assert!(fails_with(replaced, ErrorKind::PermissionDenied));
+        };
+        tests.look("it is told", by_its_rights(held_back));
+        let mode = fs::metadata(&path).expect("the file").mode();
+        tests.look("its rights", mode & 0o777 == rights);
+        set(0o600).expect("its rights");
+        tests.look("all is as it was", everything(folder) == kept);
+    }
+}
+
+/// Replacing that fails leaves the state before, and then it can be replaced; where the last flush fails
+/// the new one is there.
+fn failing_replacement(tests: &mut Tests) {
+    let [old, new] = [7, 8].map(made_up);
+    for (number, (fail, is_new)) in WAYS.into_iter().enumerate() {
+        let path = tests.saved(&format!("held-replace-fail-{}", number), &old);
+        fail();
+        tests.look("it is told", matches!(replace(&path, &old, &new), Err(Error::System(_))));
+        let there = if is_new { &new } else { &old };
+        tests.has_saved("old or new", &path, there);
+        tests.saves(&path, &made_up(9), || replace(&path, there, &made_up(9)));
+    }
+}
+
+/// Another saves a later state, or puts it in the place of the old one, when the first has begun and has
+/// not the lock yet: the first is told, and the later state stays.
+fn replaced_meanwhile(tests: &mut Tests) {
+    let [old, new, later, last] = [6, 7, 8, 9].map(made_up);
+    for (name, by_saving) in [("save", true), ("replace", false)] {
+        for (number, how) in MEANWHILE.into_iter().enumerate() {
+            let path = tests.saved(&format!("held-{}-later-{}", name, number), &old);
+            let (same, [before, other]) = (path.clone(), [old.clone(), later.clone()]);
+            meanwhile(&path, how, move || {
+                let saved =
+                    if by_saving { save(&same, &other) } else { replace(&same, &before, &other) };
+                assert!(saved.is_ok());
+            });
+            tests.fails("another by now", replace(&path, &old, &new), ErrorKind::Other);
+            tests.has_saved("the later state", &path, &later);
+            tests.saves(&path, &last, || replace(&path, &later, &last));
+        }
+    }
+}
+
+/// The file is taken away meanwhile, or the state that is told of is put there only then: what counts is
+/// what stands there under the lock.
+fn there_at_the_last_moment(tests: &mut Tests) {
+    let [old, new, other] = [6, 7, 8].map(made_up);
+    for (number, how) in MEANWHILE.into_iter().enumerate() {
+        let path = tests.saved(&format!("held-moment-{}", number), &old);
+        let same = path.clone();
+        meanwhile(&path, how, move || fs::remove_file(&same).expect("the file"));
+        tests.fails("it is gone by now", replace(&path, &old, &new), ErrorKind::NotFound);
+        tests.look("nothing is left", names(path.parent().expect("a folder")).is_empty());
+
+        tests.look("another", create(&path, &other).is_ok());
+        let (same, before) = (path.clone(), old.clone());
+        meanwhile(&path, how, move || assert!(save(&same, &before).is_ok()));
+        tests.look("it is there by now", replace(&path, &old, &new).is_ok());
+        tests.has_saved("the state", &path, &new);
+    }
+}
+
+/// One that makes or replaces a file is about to give it the name when another comes, to save, to make or
+/// to replace, in this process and in a second: the other is held back, and the first goes on.
+fn held_back_at_the_name(tests: &mut Tests) {
+    let [old, new, other] = [6, 7, 8].map(made_up);
+    for is_there in [false, true] {
+        let folder = tests.folder(&format!("held-back-{}", is_there));
+        let path = folder.join("held");
+        tests.look("the state before", !is_there || save(&path, &old).is_ok());
+        let (same, [before, others]) = (path.clone(), [old.clone(), other.clone()]);
+        let held_back = move || {
+            let kept = everything(&folder);
+            for failed in
+                [save(&same, &others), create(&same, &others), replace(&same, &before, &others)]
+            {
+                assert!(fails_with(failed, ErrorKind::WouldBlock));
+                assert!(everything(&folder) == kept, "all is as it was");
+            }
+        };
+        system::before_rename(move || {
+            held_back();
+            assert!(Process::begin(&held_back).ends_well(), "held back in another process");
+        });
+        let put = if is_there { replace(&path, &old, &new) } else { create(&path, &new) };
+        tests.look("the first goes on", put.is_ok());
+        tests.has_saved("its state", &path, &new);
+    }
+}
+
+/// Saves a state at a path where there is the state before it.
+type Next = fn(&Path, &Held, &Held) -> Result<(), Error>;
+
 /// Processes that save one state after another, ended at any moment: the file has the last state that
-/// was saved or the one that was being saved, and the next saver goes on. Gives how many left an
-/// unfinished file beside it.
-fn ended_in_saving(tests: &mut Tests) -> u64 {
+/// was saved or the one that was being saved, and the next saver goes on from there. Gives how many left
+/// an unfinished file beside it.
+fn ended_in_saving(tests: &mut Tests, name: &str, put: Next) -> u64 {
     let states = of_a_log(100);
     let state = |number: u64| &states[number as usize % states.len()];
-    let path = tests.saved("held-ended", state(0));
+    let path = tests.saved(name, state(0));
     let [begun, ended]: &[AtomicU64; 2] = unsafe { &*shared(None, 4096).cast() };
     let mut random = Random::new(fresh_seed());
     let mut unfinished = 0;
     for _ in 0..ENDS {
         end_in_the_middle(&mut random, || loop {
             let next = begun.fetch_add(1, SeqCst) + 1;
-            assert!(save(&path, state(next)).is_ok());
+            assert!(put(&path, state(next - 1), state(next)).is_ok());
             ended.store(next, SeqCst);
         });
         unfinished += u64::from(saving(&path).exists());
         let loaded = load_held(&path).expect("a whole state");
-        let [old, new] = [ended, begun].map(|number| number.load(SeqCst));
-        let is_one = [old, new].iter().any(|&number| loaded == held_bytes(state(number)));
-        tests.look("the old state or the new", is_one);
-        tests.look("the next is saved", save(&path, state(new + 1)).is_ok());
-        tests.has_saved("the next", &path, state(new + 1));
-        [begun, ended].iter().for_each(|number| number.store(new + 1, SeqCst));
+        let saved = [ended, begun].map(|number| number.load(SeqCst));
+        let there = saved.into_iter().find(|&number| loaded == held_bytes(state(number)));
+        tests.look("the old state or the new", there.is_some());
+        let there = there.expect("a state");
+        let next = there + 1;
+        let other = replace(&path, state(next), state(there));
+        tests.fails("another is not replaced", other, ErrorKind::Other);
+        tests.look("the next is saved", put(&path, state(there), state(next)).is_ok());
+        tests.has_saved("the next", &path, state(next));
+        [begun, ended].iter().for_each(|number| number.store(next, SeqCst));
     }
     tests.look("some ended in the middle", unfinished > 0);
     unfinished
@@ -361,10 +723,22 @@ pub(crate) fn look(tests: &mut Tests) {
     two_savers(tests);
     moved_meanwhile(tests);
     damaged(tests);
-    let unfinished = ended_in_saving(tests);
+    creating(tests);
+    creating_over(tests);
+    failing_creation(tests);
+    created_meanwhile(tests);
+    replacing(tests);
+    replacing_another(tests);
+    replacing_by_its_rights(tests);
+    failing_replacement(tests);
+    replaced_meanwhile(tests);
+    there_at_the_last_moment(tests);
+    held_back_at_the_name(tests);
+    let unfinished = ended_in_saving(tests, "held-ended", |path, _, state| save(path, state));
+    let replaced = ended_in_saving(tests, "held-replace-ended", replace);
     println!(
         "{} things of a held state in a file are as they should be; of {} ends while one is saved {} \
-         left an unfinished file",
-        tests.looked_at, ENDS, unfinished
+         left an unfinished file, of {} ends while one is replaced {}",
+        tests.looked_at, ENDS, unfinished, ENDS, replaced
     );
 }

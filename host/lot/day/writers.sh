@@ -10,6 +10,7 @@ rounds_grow=20
 day_writers() {
     local old=0 new=0
     second_writer
+    overtaken_advance
     pairs_of_advances
     pairs_of_makers
     pairs_of_seals
@@ -133,6 +134,31 @@ pairs_of_advances() {
         *) fail 'one of the two to be accepted' ;;
         esac
     done
+}
+
+# An advance to 8 has read the held file and waits for its proof while another one advances to 12: the first must not
+# put its older state over the newer one.
+overtaken_advance() {
+    local feeder
+    cp held.0 held
+    rm -f opened go
+    mkfifo slow
+    start advance held 8 "${T[8]}" slow
+    # opening a pipe waits for its reader, which has read the held file by then
+    timeout 30 bash -c 'exec 3>slow; : >opened; until [ -e go ]; do sleep 0.01; done; cat growth.0.8 >&3' &
+    feeder=$!
+    until [ -e opened ]; do kill -0 "$feeder" 2>/dev/null || break; pause 1000; done
+    expect 0 'accepted: 0 to 12, after 2 hops' advance held 12 "${T[12]}" growth.0.12
+    : >go
+    words=(advance held 8) status=0
+    wait "$process" || status=$?
+    wait "$feeder" || true
+    answer=$(<printed) aside=$(<complained)
+    [[ $status == 2 && -z $answer && $aside == 'lot advance: held: another process has changed it meanwhile' ]] ||
+        fail 'status 2 and a complaint: the held file was changed meanwhile'
+    same held held.12
+    gone held.saving
+    rm slow opened go
 }
 
 # Two that make one file: one of them does, and the other complains; two proofs into one file: it is one of them.
