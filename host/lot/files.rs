@@ -59,18 +59,32 @@ fn identity(name: &OsStr) -> Option<(u64, u64)> {
     fs::metadata(name).ok().map(|file| (file.dev(), file.ino()))
 }
 
+/// Whether two names stand for one file, also for one that is not there yet.
+pub fn is_one_place(one: &OsStr, other: &OsStr) -> bool {
+    let place = |name: &OsStr| {
+        let path = Path::new(name);
+        // a bare name has an empty parent
+        let folder = path.parent().filter(|folder| !folder.as_os_str().is_empty());
+        let folder = fs::canonicalize(folder.unwrap_or_else(|| Path::new("."))).ok();
+        (folder, path.file_name().map(OsStr::to_os_string))
+    };
+    is_one_file(one, other) || place(one) == place(other)
+}
+
+fn is_one_file(one: &OsStr, other: &OsStr) -> bool {
+    identity(one).map_or(false, |one| identity(other) == Some(one))
+}
+
 /// Where what a command makes goes: to a file, or for `-` to standard output.
 pub struct Output<'a>(&'a OsStr);
 
 impl<'a> Output<'a> {
     /// That it is one of the files which the command reads is a slip: the file would be lost.
     pub fn of(name: &'a OsStr, inputs: &[&OsStr]) -> Result<Output<'a>, Trouble> {
-        let is_read =
-            |input: &&&OsStr| identity(input).is_some() && identity(input) == identity(name);
-        match inputs.iter().find(is_read) {
-            Some(_) if name != "-" => Err(Trouble::of(name, "it is read, so it can't be written")),
-            _ => Ok(Output(name)),
+        if name != "-" && inputs.iter().any(|input| is_one_file(input, name)) {
+            return Err(Trouble::of(name, "it is read, so it can't be written"));
         }
+        Ok(Output(name))
     }
 
     /// Writes it whole: a file that is there is replaced when all of the new one is safe. A device
@@ -97,8 +111,7 @@ fn to_standard_output(bytes: &[u8]) -> io::Result<()> {
 
 /// That a van's key is given as something else too is a slip: it would be sealed and sent, or lost.
 pub fn must_differ(key: &OsStr, others: &[Option<&OsStr>]) -> Result<(), Trouble> {
-    let is_key = |other: &OsStr| identity(other).is_some() && identity(other) == identity(key);
-    if others.iter().flatten().any(|other| is_key(other)) {
+    if others.iter().flatten().any(|other| is_one_file(other, key)) {
         return Err(Trouble::of(key, "the key can't be another file of the command too"));
     }
     Ok(())

@@ -5,7 +5,7 @@ use std::ffi::OsStr;
 use lotlog::file::{create_held, replace_held};
 use lotlog::{Digest, Held, Side, HELD_BYTES, HELD_FILE_MOST, LEVELS, PROOF_MOST};
 
-use crate::files::{must_be_one, read_first, Output};
+use crate::files::{is_one_place, must_be_one, read_first, Output};
 use crate::house::{done, done_alone, ENTRY_MOST};
 use crate::json::Value;
 use crate::said::{Call, Outcome, Said, Stop, Trouble, FALSE};
@@ -162,6 +162,7 @@ pub fn compare(words: &Words, _: &Teller) -> Outcome {
         return Ok(Said::good("same").with("answer", "same").with("count", at));
     }
     let said = Said::good("different").status(FALSE).with("answer", "different").with("count", at);
+    let said = said.with("held", hex(digest));
     Ok(said.aside(format!("at {} the held log has {}: the other is another log", at, hex(digest))))
 }
 
@@ -178,7 +179,7 @@ pub fn dispute(words: &Words, _: &Teller) -> Outcome {
     must_be_one(&inputs)?;
     let outputs = words.needed("-o")?;
     let outs = [Output::of(&outputs[0], &inputs)?, Output::of(&outputs[1], &inputs)?];
-    if outputs[0] == outputs[1] || outputs.iter().any(|name| name == "-") {
+    if is_one_place(&outputs[0], &outputs[1]) || outputs.iter().any(|name| name == "-") {
         return Err(words.wrong("-o takes two different files").into());
     }
     let claim = |entry, proof| Claim { element, of, digest, entry, proof };

@@ -52,8 +52,8 @@ impl Said {
         self
     }
 
-    pub fn aside(mut self, line: impl Into<Option<String>>) -> Said {
-        self.aside = line.into();
+    pub fn aside(mut self, line: String) -> Said {
+        self.aside = Some(line);
         self
     }
 

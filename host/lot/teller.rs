@@ -29,11 +29,11 @@ impl<'a> Teller<'a> {
         if let Some(aside) = &said.aside {
             self.complain(aside);
         }
-        let line =
-            if self.json { self.object(said.status, &said.fields) } else { said.line.clone() };
         if said.line.is_empty() {
             return Ok(());
         }
+        let line =
+            if self.json { self.object(said.status, &said.fields) } else { said.line.clone() };
         self.write(&format!("{}\n", line))
             .map_err(|error| Trouble::new(format!("standard output: {}", system_words(&error))))
     }

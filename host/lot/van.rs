@@ -17,11 +17,11 @@ use crate::words::Words;
 /// The bytes of a key.
 const KEY: usize = 32;
 
-/// What was sealed: the entry's number, the bytes of its data, and what there is to say besides.
+/// What was sealed: the entry's number, the bytes of its data, and how many stood in its place.
 struct Sealed {
     entry: u64,
     bytes: u64,
-    aside: Option<String>,
+    torn: u64,
 }
 
 fn sealed(words: &Words, kind: u32, data: Option<&OsStr>) -> Result<Sealed, Stop> {
@@ -41,7 +41,7 @@ fn sealed(words: &Words, kind: u32, data: Option<&OsStr>) -> Result<Sealed, Stop
     })?;
     let [entry, torn, _] = answer.beside;
     match answer.number {
-        0 => Ok(Sealed { entry, bytes: data.len() as u64, aside: about_torn(name, torn) }),
+        0 => Ok(Sealed { entry, bytes: data.len() as u64, torn }),
         24 => Err(Said::refused(answer, Call::Makes).status(DAMAGED).into()),
         _ => Err(Said::refused(answer, Call::Makes).into()),
     }
@@ -52,11 +52,14 @@ fn must_open(name: &OsStr) -> io::Result<()> {
     OpenOptions::new().read(true).write(true).open(name).map(|_| ())
 }
 
-/// What is said of bytes that were no whole entry.
-fn about_torn(name: &OsStr, torn: u64) -> Option<String> {
+/// Says of bytes that were no whole entry where they are.
+fn with_torn(said: Said, name: &OsStr, torn: u64) -> Said {
+    if torn == 0 {
+        return said;
+    }
     let name = shown(name);
     let found = format!("{}: {} bytes at its end were no whole entry", name, torn);
-    Some(format!("{}: they are in {}.torn now", found, name)).filter(|_| torn > 0)
+    said.with("torn", torn).aside(format!("{}: they are in {}.torn now", found, name))
 }
 
 pub fn seal(words: &Words, _: &Teller) -> Outcome {
@@ -65,16 +68,18 @@ pub fn seal(words: &Words, _: &Teller) -> Outcome {
     if kind == CLOSING {
         return Err(words.wrong("type 1 closes the log: that is lot seal-close").into());
     }
-    let Sealed { entry, bytes, aside } = sealed(words, kind, Some(words.word(1)))?;
+    let Sealed { entry, bytes, torn } = sealed(words, kind, Some(words.word(1)))?;
     let said = Said::good(format!("entry {}, type {}, {} bytes of data", entry, kind, bytes));
-    Ok(said.with("entry", entry).with("type", number).with("bytes", bytes).aside(aside))
+    let said = said.with("entry", entry).with("type", number).with("bytes", bytes);
+    Ok(with_torn(said, words.word(0), torn))
 }
 
 pub fn seal_close(words: &Words, _: &Teller) -> Outcome {
     let data = words.words_from(1).first().map(|data| &data[..]);
-    let Sealed { entry, aside, .. } = sealed(words, CLOSING, data)?;
+    let Sealed { entry, torn, .. } = sealed(words, CLOSING, data)?;
     let said = Said::good(format!("entry {}, closed", entry));
-    Ok(said.with("entry", entry).with("type", u64::from(CLOSING)).aside(aside))
+    let said = said.with("entry", entry).with("type", u64::from(CLOSING));
+    Ok(with_torn(said, words.word(0), torn))
 }
 
 pub fn seal_check(words: &Words, _: &Teller) -> Outcome {

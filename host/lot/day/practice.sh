@@ -140,8 +140,18 @@ dispute_proofs() {
     still refuses 1 13 ', proof 1' dispute 13 12 "$digest" entry.5 proof.5.12 entry.5 proof.5.12 -o A B
     still refuses 1 13 ', proof 1' dispute 0 12 "$digest" entry.5 proof.5.12 entry.5 proof.5.12 -o A B
     still refuses 1 13 ', proof 1' dispute 5 12 "$digest" long proof.5.12 entry.5 proof.5.12 -o A B
+    # two messages need two files, by whatever names
+    mkdir folder
+    ln -s . here
+    ln entry.1 linked.1
+    still misused dispute 5 12 "$digest" entry.5 proof.5.12 entry.5 proof.5.12 -o A A
+    still misused dispute 5 12 "$digest" entry.5 proof.5.12 entry.5 proof.5.12 -o A ./A
+    still misused dispute 5 12 "$digest" entry.5 proof.5.12 entry.5 proof.5.12 -o here/A folder/../A
+    still misused dispute 5 12 "$digest" entry.5 proof.5.12 entry.5 proof.5.12 -o entry.1 linked.1
+    still misused dispute 5 12 "$digest" entry.5 proof.5.12 entry.5 proof.5.12 -o A -
+    still expect 0 same dispute 5 12 "$digest" entry.5 proof.5.12 entry.5 proof.5.12 -o A folder/A
     gone A B
-    rm long bad
+    rm -r long bad folder here linked.1
 }
 
 # The picture itself is for people: its first line and, with a proof, its last are settled.

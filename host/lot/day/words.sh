@@ -228,7 +228,7 @@ json_practice() {
     json 1 '{"refused":10,"meaning":"link differs","element":8,"level":1,"hops":1}' verify held.12 5 entry.5 bad
     json 1 '{"refused":8,"meaning":"first d is not the entry'"'"'s"}' verify held.12 5 entry.6 proof.5.12
     json 0 '{"answer":"same","count":12}' compare held.12 12 "$digest"
-    json 1 '{"answer":"different","count":8}' compare held.12 8 "$digest"
+    json 1 "{\"answer\":\"different\",\"count\":8,\"held\":\"${T[8]}\"}" compare held.12 8 "$digest"
     json 0 '{"answer":"same"}' dispute 5 12 "$digest" entry.5 proof.5.12 entry.5 proof.5.12 -o A B
     json 1 '{"refused":13,"meaning":"proof not accepted","proof":2}' dispute 5 12 "$digest" entry.5 proof.5.12 entry.5 bad -o A B
     local drawn='"element":5,"of":12,"hops":3,"bytes":448,"components":[{"element":5,"from":0,"bytes":64,"links":[4]},'
@@ -260,7 +260,9 @@ json_van() {
     cp first key
     json 0 '{"entry":0,"type":2,"bytes":11}' seal log --key key --type 2 data
     json 1 '{"refused":25,"meaning":"no closing entry"}' seal-check log --first-key first
-    json 0 '{"entry":1,"type":1}' seal-close log --key key
+    printf torn >>log
+    json 0 '{"entry":1,"type":1,"torn":4}' seal-close log --key key
+    rm log.torn
     json 3 '{"refused":23,"meaning":"van'"'"'s log closed"}' seal log --key key --type 2 data
     json 3 '{"refused":23,"meaning":"van'"'"'s log closed"}' seal-close log --key key
     json 0 '{"answer":"accepted","entries":2}' seal-check log --first-key first
