@@ -570,6 +570,10 @@ fn replacing_another(tests: &mut Tests) {
     let failed = replace(&path, &before, &state);
     tests.look("a folder", matches!(failed, Err(Error::System(_))));
     tests.look("all is as it was", everything(&folder) == kept);
+
+    fs::remove_dir(&path).expect("the folder");
+    make_pipe(&path);
+    tests.leaves_all(&folder, ErrorKind::InvalidInput, || replace(&path, &before, &state));
 }
 
 /// A file that may not be written is not replaced, nor one that may not be read.

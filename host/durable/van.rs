@@ -1,10 +1,10 @@
 //! A van's log in a file and its key in another: what `seal_to` leaves of both, by the second program. A
 //! whole way from the first entry to the closing one; refusals, and which comes first; what is done in
-//! which order; a write or a flush that fails, once and again and again; every state of the two files
-//! that a cut can leave, and where the bytes of a torn entry go; a second process at every moment that
-//! matters; names and files of other kinds; and ends in the middle of sealing. A log that goes on is
-//! closed at last and must pass the office's check, with every entry that was answered, once and in
-//! order.
+//! which order; a write, a flush or a rename that fails, once and again and again; every state of the
+//! two files that a cut can leave, also one of the power behind an end of the process; a second process
+//! at every moment that matters; names and files of other kinds; and ends in the middle of sealing. A
+//! log that goes on is closed at last and must pass the office's check, with every entry that was
+//! answered, once and in order.
 
 use std::io::{self, ErrorKind, Write};
 use std::os::unix::fs::{symlink, MetadataExt, PermissionsExt};
@@ -73,9 +73,9 @@ fn some_entry(seed: u64) -> (u32, Vec<u8>) {
     (kind, random.bytes(length))
 }
 
-/// The answer to an entry of that number, if so many bytes stood in its place.
-fn sealed(number: u64, torn: usize) -> Option<Answer> {
-    Some(Answer { number: 0, beside: [number, torn as u64, 0] })
+/// The answer to an entry of that number.
+fn sealed(number: u64) -> Option<Answer> {
+    Some(Answer { number: 0, beside: [number, 0, 0] })
 }
 
 /// Makes a file or writes over one; without emptying it first, after which the system would wait for the
@@ -86,13 +86,13 @@ fn write_over(path: &Path, bytes: &[u8]) -> io::Result<()> {
     file.set_len(bytes.len() as u64)
 }
 
-/// The two files of a van, and where bytes go that are no whole entry.
+/// The two files of a van, and the one that is made beside the log.
 #[derive(Clone)]
 struct Files {
     folder: PathBuf,
     log: PathBuf,
     key: PathBuf,
-    torn: PathBuf,
+    saving: PathBuf,
 }
 
 impl Files {
@@ -102,7 +102,7 @@ impl Files {
 
     /// Puts there a key, and a log or none, and nothing else.
     fn put(&self, log: Option<&[u8]>, key: &[u8]) {
-        for (path, bytes) in [(&self.log, log), (&self.key, Some(key)), (&self.torn, None)] {
+        for (path, bytes) in [(&self.log, log), (&self.key, Some(key)), (&self.saving, None)] {
             match bytes {
                 Some(bytes) => write_over(path, bytes).expect("a file"),
                 None if path.exists() => fs::remove_file(path).expect("the file"),
@@ -130,8 +130,8 @@ impl Tests {
     /// A folder with a van's two files; a log without entries is not there.
     fn files(&self, name: &str, van: &Van) -> Files {
         let folder = self.folder(name);
-        let [log, key, torn] = ["log", "key", "log.torn"].map(|name| folder.join(name));
-        let files = Files { folder, log, key, torn };
+        let [log, key, saving] = ["log", "key", "log.saving"].map(|name| folder.join(name));
+        let files = Files { folder, log, key, saving };
         files.put((van.entries > 0).then(|| &van.log[..]), &van.key);
         files
     }
@@ -143,21 +143,15 @@ impl Tests {
         self.look(what, key_there == key);
     }
 
-    /// Looks whether an entry is sealed, and gives the van that has it. What stood behind the van's log
-    /// goes behind what was torn before.
+    /// Looks whether an entry is sealed, and gives the van that has it.
     fn seals(&mut self, files: &Files, van: &Van, kind: u32, data: &[u8]) -> Van {
         let next = van.with(kind, data);
-        let [log, _] = files.bytes();
-        let torn = log.get(van.log.len()..).unwrap_or_default();
-        let kept = [&bytes_at(&files.torn)[..], torn].concat();
-        let is_torn = files.torn.exists() || !torn.is_empty();
         let file = fs::metadata(&files.key).expect("the key").ino();
-        self.look("it is sealed", files.seal(kind, data).ok() == sealed(van.entries, torn.len()));
+        self.look("it is sealed", files.seal(kind, data).ok() == sealed(van.entries));
         self.hold("the entry and the next key", files, &next.log, &next.key);
         let key_after = fs::metadata(&files.key).expect("the key").ino();
         self.look("the old key is overwritten", key_after == file);
-        self.look("what was torn is kept", bytes_at(&files.torn) == kept);
-        self.look("nothing else", names(&files.folder).len() == 2 + usize::from(is_torn));
+        self.look("nothing else", names(&files.folder).len() == 2);
         next
     }
 
@@ -206,53 +200,40 @@ fn a_whole_way(tests: &mut Tests) {
     }
 }
 
-/// The steps by which a van's next entry is sealed: the entry, its flush, that of the log's name, the key
-/// and its flush. Before them bytes that are no whole entry are kept, with a flush of them and of their
-/// name.
-fn steps_to(files: &Files, torn: &[u8], van: &Van, next: &Van) -> Vec<Step> {
-    let keeping = [
-        Step::Written(files.torn.clone(), torn.to_vec()),
-        Step::Flushed(files.torn.clone()),
-        Step::Flushed(files.folder.clone()),
-    ];
+/// The steps by which a van's next entry is sealed. First what is there is made safe: the log and its
+/// name, if there is one, and the key. Then the new log, whole, beside the old one, its flush, its name and
+/// the flush of that; then the key and its flush.
+fn steps_to(files: &Files, van: &Van, next: &Van) -> Vec<Step> {
+    let there = [Step::Flushed(files.log.clone()), Step::Flushed(files.folder.clone())];
     let sealing = [
-        Step::Written(files.log.clone(), next.log[van.log.len()..].to_vec()),
-        Step::Flushed(files.log.clone()),
+        Step::Flushed(files.key.clone()),
+        Step::Written(files.saving.clone(), next.log.clone()),
+        Step::Flushed(files.saving.clone()),
+        Step::Renamed(files.saving.clone(), files.log.clone()),
         Step::Flushed(files.folder.clone()),
         Step::Written(files.key.clone(), next.key.to_vec()),
         Step::Flushed(files.key.clone()),
     ];
-    keeping.into_iter().filter(|_| !torn.is_empty()).chain(sealing).collect()
+    there.into_iter().filter(|_| van.entries > 0).chain(sealing).collect()
 }
 
-/// How many steps keep torn bytes, how many seal, and which of these matter most.
-const KEEPING: usize = 3;
-const SEALING: usize = 5;
-const ENTRY_WRITTEN: usize = 0;
-const LOG_FLUSHED: usize = 1;
-const KEY_WRITTEN: usize = 3;
+/// How many steps make a log safe that is there, how many follow, and which of these matter most.
+const THERE: usize = 2;
+const SEALING: usize = 7;
+const RENAMED: usize = 3;
+const KEY_WRITTEN: usize = 5;
 
-/// The steps are made, and in this order, for a new log as for one that is there, also with torn bytes at
-/// its end, and for a closing entry.
+/// The steps are made, and in this order, for a new log as for one that is there, and for a closing entry.
 fn in_this_order(tests: &mut Tests) {
     let mut van = Van::new(1);
     let files = tests.files("van-order", &van);
-    for (kind, data, torn) in [
-        (7, &b"first"[..], &[][..]),
-        (8, &[5; DATA_MOST], &[]),
-        (9, b"", &[1; 37]),
-        (10, b"more", &[0; 4]),
-        (CLOSING, b"end", &[]),
-    ] {
-        if !torn.is_empty() {
-            files.put(Some(&[&van.log, torn].concat()), &van.key);
-        }
+    for (kind, data) in [(7, &b"first"[..]), (8, &[5; DATA_MOST]), (9, b""), (CLOSING, b"end")] {
         system::steps();
         let answer = files.seal(kind, data);
         let steps = system::steps();
-        tests.look("it is sealed", answer.ok() == sealed(van.entries, torn.len()));
+        tests.look("it is sealed", answer.ok() == sealed(van.entries));
         let next = van.with(kind, data);
-        tests.look("the steps", steps == steps_to(&files, torn, &van, &next));
+        tests.look("the steps", steps == steps_to(&files, &van, &next));
         van = next;
     }
 }
@@ -260,19 +241,26 @@ fn in_this_order(tests: &mut Tests) {
 /// A log or none, and the refusal that it brings: none, or 24 with an entry, or 23.
 type Log = (Option<Vec<u8>>, Option<(u64, u64)>);
 
-/// Logs of a van of three entries: none, an empty one, ones that are cut off; and with a length over the
-/// most in each entry and behind the last, whatever follows.
+/// Logs of a van of three entries: none, an empty one, whole ones, ones that are cut off; and in each entry
+/// and behind the last a length over the most, whatever follows, or one that leads past the end.
 fn logs_of(van: &Van) -> Vec<Log> {
     let begin = |j: u64| Van::of(j).log.len();
     let mut logs = vec![(None, None)];
-    for length in [0, 5, begin(1), begin(2) + 7, begin(3)] {
-        logs.push((Some(van.log[..length].to_vec()), None));
+    for (length, refused) in [
+        (0, None),
+        (5, Some((24, 0))),
+        (begin(1), None),
+        (begin(2) + 7, Some((24, 2))),
+        (begin(3) - 1, Some((24, 2))),
+        (begin(3), None),
+    ] {
+        logs.push((Some(van.log[..length].to_vec()), refused));
     }
     for j in 0..=3 {
         let (before, behind) = van.log.split_at(begin(j));
-        for length in [DATA_MOST as u16 + 1, 0x2000, u16::MAX] {
+        for length in [DATA_MOST as u16, DATA_MOST as u16 + 1, 0x2000, u16::MAX] {
             let head = [&[0, 0, 0, 1][..], &length.to_be_bytes()].concat();
-            logs.push((Some([before, &head[..5]].concat()), None));
+            logs.push((Some([before, &head[..5]].concat()), Some((24, j))));
             logs.push((Some([before, &head].concat()), Some((24, j))));
             logs.push((Some([before, &head, behind].concat()), Some((24, j))));
         }
@@ -290,7 +278,7 @@ fn closed_logs() -> Vec<Log> {
     let long = [0, 0, 0, 7, 0xFF, 0xFF];
     vec![
         (Some(closed.clone()), Some((23, 0))),
-        (Some([&closed[..], &[0; 30]].concat()), Some((23, 0))),
+        (Some([&closed[..], &[0; 30]].concat()), Some((24, 3))),
         (Some([&closed[..], &behind].concat()), Some((23, 0))),
         (Some([&closed[..], &behind, &long].concat()), Some((24, 4))),
     ]
@@ -307,7 +295,7 @@ fn some_keys(van: &Van) -> Vec<(Vec<u8>, u64)> {
 }
 
 /// Logs, data and keys, each with each: of the causes of a refusal the first in the order 24, 3, 6, 23
-/// decides, no step is made, and all is as it was.
+/// decides, nothing is written, and all is as it was.
 fn refusals(tests: &mut Tests) {
     let van = Van::of(3);
     let files = tests.files("van-refused", &van);
@@ -327,18 +315,17 @@ fn refusals(tests: &mut Tests) {
                 let answer = files.seal([7, CLOSING][length % 2], &vec![3; length]);
                 let told = Answer { number, beside: [entry, 0, 0] };
                 tests.look("it is refused", answer.ok() == Some(told));
-                tests.look("no step is made", system::steps().is_empty());
+                let is_flush = |step: &Step| matches!(step, Step::Flushed(_));
+                tests.look("nothing is written", system::steps().iter().all(is_flush));
                 tests.look("all is as it was", everything(&files.folder) == before);
             }
         }
     }
 }
 
-/// A call that comes to its end at one of its steps, in a folder of its own, perhaps with torn bytes at
-/// the end of the log.
+/// A call that comes to its end at one of its steps, in a folder of its own.
 struct Broken {
     files: Files,
-    torn: Vec<u8>,
     van: Van,
     next: Van,
     kind: u32,
@@ -348,25 +335,19 @@ struct Broken {
 impl Broken {
     const DATA: &'static [u8] = b"that does not come to its end";
 
-    /// Calls that seal and that close, each with a new log, with one that is there and with one that is
-    /// torn, and at each of their steps.
+    /// Calls that seal and that close, each with a new log and with one that is there, and at each of
+    /// their steps.
     fn all(tests: &Tests, name: &str) -> Vec<Broken> {
         let mut all = vec![];
-        for (log, entries, torn) in [("new", 0, 0), ("old", 3, 0), ("torn", 3, 20)] {
+        for (entries, steps) in [(0, SEALING), (3, THERE + SEALING)] {
             let van = Van::of(entries);
-            let torn = van.with(8, b"cut off").log[van.log.len()..][..torn].to_vec();
-            for kind in [7, CLOSING] {
+            for (kind, at) in
+                [7, CLOSING].into_iter().flat_map(|kind| (0..steps).map(move |at| (kind, at)))
+            {
+                let name = format!("van-{}-{}-{}-{}", name, entries, kind, at);
                 let next = van.with(kind, Broken::DATA);
-                let steps = SEALING + if torn.is_empty() { 0 } else { KEEPING };
-                for at in 0..steps {
-                    let name = format!("van-{}-{}-{}-{}", name, log, kind, at);
-                    let (files, torn) = (tests.files(&name, &van), torn.clone());
-                    if !torn.is_empty() {
-                        files.put(Some(&[&van.log[..], &torn].concat()), &van.key);
-                    }
-                    let (van, next) = (van.clone(), next.clone());
-                    all.push(Broken { files, torn, van, next, kind, at });
-                }
+                let (files, van) = (tests.files(&name, &van), van.clone());
+                all.push(Broken { files, van, next, kind, at });
             }
         }
         all
@@ -376,40 +357,35 @@ impl Broken {
         self.files.seal(self.kind, Broken::DATA)
     }
 
-    /// Whether a step of sealing was done.
-    fn is_past(&self, step: usize) -> bool {
-        self.at > step + if self.torn.is_empty() { 0 } else { KEEPING }
-    }
-
     /// The van with the entry if that step of sealing was done, else without it.
     fn after(&self, step: usize) -> &Van {
-        if self.is_past(step) {
+        let before = if self.van.entries > 0 { THERE } else { 0 };
+        if self.at > before + step {
             &self.next
         } else {
             &self.van
         }
     }
 
-    /// Looks at what the files hold: that log, or still the one that the call found, and the key as it was
-    /// left; and whether the next call goes on, and no torn byte is lost.
-    fn look(&self, tests: &mut Tests, in_log: &Van) {
-        let [log, key] = self.files.bytes();
-        let is_untouched = self.at <= KEEPING && log == [&self.van.log[..], &self.torn].concat();
-        tests.look("whole or not at all", log == in_log.log || is_untouched);
-        tests.look("the old key or the next", key == self.after(KEY_WRITTEN).key);
-        tests.goes_on(&self.files, in_log);
-        tests.look("what was torn is kept", bytes_at(&self.files.torn).ends_with(&self.torn));
+    /// Looks at what the files hold, the log and the key as they were left, and whether the next call goes
+    /// on.
+    fn look(&self, tests: &mut Tests) {
+        let (log, key) = (&self.after(RENAMED).log, &self.after(KEY_WRITTEN).key);
+        tests.hold("whole or not at all", &self.files, log, key);
+        tests.goes_on(&self.files, self.after(RENAMED));
     }
 }
 
-/// Each step fails in its turn: the entry is there whole or not at all, and the next call goes on.
+/// Each step fails in its turn: the entry is there whole or not at all, nothing is left beside the log,
+/// and the next call goes on.
 fn failing(tests: &mut Tests) {
     for call in Broken::all(tests, "fail") {
-        let is_log = call.files.log.exists() || call.is_past(LOG_FLUSHED);
         system::fail_step(call.at + 1);
         tests.look("it is told", matches!(call.seal(), Err(Error::System(_))));
+        let is_log = call.after(RENAMED).entries > 0;
         tests.look("no log that is new", call.files.log.exists() == is_log);
-        call.look(tests, call.after(LOG_FLUSHED));
+        tests.look("nothing is left", names(&call.files.folder).len() == 1 + usize::from(is_log));
+        call.look(tests);
     }
     let files = tests.files("van-full", &Van::new(0));
     system::fail_write(1);
@@ -424,7 +400,7 @@ fn ended_before_a_step(tests: &mut Tests) {
             let _ = call.seal();
         });
         tests.look("it ends", !process.ends_well());
-        call.look(tests, call.after(ENTRY_WRITTEN));
+        call.look(tests);
     }
 }
 
@@ -434,19 +410,15 @@ impl Tests {
     fn seals_or_fails(&mut self, files: &Files, van: &Van, step: usize, seed: u64) -> (Van, bool) {
         let (kind, data) = some_entry(seed);
         let next = van.with(kind, &data);
-        let [found, _] = files.bytes();
         system::fail_step(step);
         let answer = files.seal(kind, &data);
         system::fail_step(0);
         let [log, _] = files.bytes();
         let is_there = log == next.log;
-        self.look("whole or not at all", is_there || log == van.log || log == found);
+        self.look("whole or not at all", is_there || log == van.log);
         let is_answered = answer.is_ok();
         match answer {
-            Ok(_) => {
-                let torn = found.len() - van.log.len();
-                self.look("it is sealed", is_there && answer.ok() == sealed(van.entries, torn));
-            }
+            Ok(_) => self.look("it is sealed", is_there && answer.ok() == sealed(van.entries)),
             Err(_) => self.look("a step fails", step > 0),
         }
         (if is_there { next } else { van.clone() }, is_answered)
@@ -462,7 +434,7 @@ fn failing_again_and_again(tests: &mut Tests) {
         let files = tests.files(&format!("van-fails-{}", number), &van);
         let mut answered = 0;
         for _ in 0..20 {
-            let (step, seed) = (random.place(10), random.next());
+            let (step, seed) = (random.place(14), random.next());
             let (next, is_answered) = tests.seals_or_fails(&files, &van, step, seed);
             van = next;
             answered += u64::from(is_answered);
@@ -479,23 +451,14 @@ struct Cut {
     van: Van,
 }
 
-/// Every state of the two files that a cut can leave of a call: of the entry there is nothing, a part or
-/// all, and when all is there the key is the old one or the next. Of a long entry some parts are left
-/// out, none at its ends.
+/// Every state of the two files that a cut can leave of a call: the log before and its key, or the new one
+/// with the old key or with the next.
 fn cuts(van: &Van, kind: u32, data: &[u8]) -> Vec<Cut> {
     let whole = van.with(kind, data);
-    let lengths = (van.log.len()..whole.log.len()).filter(|&length| {
-        let (begun, left) = (length - van.log.len(), whole.log.len() - length);
-        begun < 40 || left < 40 || begun % 211 == 0
-    });
-    let part = |length: usize| Some(whole.log[..length].to_vec());
-    let mut cuts: Vec<Cut> =
-        lengths.map(|n| Cut { log: part(n), key: van.key, van: van.clone() }).collect();
+    let before = Some(van.log.clone()).filter(|_| van.entries > 0);
+    let mut cuts = vec![Cut { log: before, key: van.key, van: van.clone() }];
     for key in [van.key, whole.key] {
-        cuts.push(Cut { log: part(whole.log.len()), key, van: whole.clone() });
-    }
-    if van.entries == 0 {
-        cuts.push(Cut { log: None, key: van.key, van: van.clone() });
+        cuts.push(Cut { log: Some(whole.log.clone()), key, van: whole.clone() });
     }
     cuts
 }
@@ -515,7 +478,8 @@ fn all_cuts() -> Vec<Cut> {
 }
 
 /// From every state that a cut can leave the next call goes on, whether it is refused, seals another entry
-/// or closes: a part of an entry goes out of the log, and a key that did not move moves.
+/// or closes: a key that did not move moves. What the call that was cut off has left beside the log is in
+/// nobody's way.
 fn after_a_cut(tests: &mut Tests) {
     let files = tests.files("van-cut", &Van::new(0));
     let (long, refused) = (vec![0; DATA_MOST + 1], Answer { number: 3, beside: [0; 3] });
@@ -523,8 +487,8 @@ fn after_a_cut(tests: &mut Tests) {
         files.put(log.as_deref(), &key);
         tests.look("a refusal", files.seal(7, &long).ok() == Some(refused));
         tests.hold("moves the key alone", &files, log.as_deref().unwrap_or_default(), &van.key);
-        tests.look("nothing is moved", !files.torn.exists());
         files.put(log.as_deref(), &key);
+        write_over(&files.saving, &vec![0xEE; 50 * number]).expect("a file");
         if number % 2 == 1 && !van.is_closed() {
             van = tests.seals(&files, &van, CLOSING, &[0xDA; 60]);
         }
@@ -537,9 +501,7 @@ fn after_a_cut(tests: &mut Tests) {
 fn failing_after_a_cut(tests: &mut Tests) {
     let files = tests.files("van-cut-fail", &Van::new(0));
     for (entries, kind) in [(0, 7), (2, 8)] {
-        let states = cuts(&Van::of(entries), kind, b"").into_iter().enumerate();
-        // of the parts some, of the others all
-        for (_, cut) in states.filter(|(number, _)| number % 9 == 0 || *number >= BESIDE_DATA) {
+        for cut in cuts(&Van::of(entries), kind, b"") {
             let (mut step, mut is_answered) = (0, false);
             while !is_answered {
                 step += 1;
@@ -553,46 +515,126 @@ fn failing_after_a_cut(tests: &mut Tests) {
     }
 }
 
-/// Torn bytes that are no part of an entry of this van: they go behind those that were kept before, and
-/// from a length that somebody made larger on all of the log goes there. Where they can't be kept nothing
-/// is changed.
-fn torn_bytes(tests: &mut Tests) {
-    let mut van = Van::of(2);
-    let files = tests.files("van-torn", &van);
-    for torn in [&b"one"[..], b"two", b"", &[0; 37], b"three"] {
-        write_over(&files.log, &[&van.log[..], torn].concat()).expect("a file");
-        van = tests.seals(&files, &van, 7, b"the next");
+/// A disk, and what is on its way there: the logs that the name may stand for, the keys that the key's file
+/// may hold, and the file beside the log, with whether it is flushed. The last of each is what a process
+/// sees.
+#[derive(Clone)]
+struct Disk {
+    logs: Vec<Option<Vec<u8>>>,
+    keys: Vec<Vec<u8>>,
+    saving: Option<(Vec<u8>, bool)>,
+}
+
+impl Disk {
+    fn of(van: &Van) -> Disk {
+        let log = Some(van.log.clone()).filter(|_| van.entries > 0);
+        Disk { logs: vec![log], keys: vec![van.key.to_vec()], saving: None }
     }
-    let kept = [&b"onetwo"[..], &[0; 37], b"three"].concat();
-    tests.look("all of them", fs::read(&files.torn).expect("the file") == kept);
 
-    let (log, first) = (van.log.clone(), Van::of(1).log.len());
-    let mut longer = log.clone();
-    longer[first + 4..first + 6].copy_from_slice(&[0x10, 0]);
-    files.put(Some(&longer), &van.key);
-    let answer = files.seal(7, b"in its place").ok();
-    tests.look("it is sealed", answer == sealed(1, log.len() - first));
-    tests.look("the others are kept", fs::read(&files.torn).expect("the file") == longer[first..]);
-    let there = fs::read(&files.log).expect("the log");
-    tests.look("the first stays", there[..first] == log[..first]);
-    tests.look("the office finds it", seal_check(&van.first_key, &there).number == 24);
+    fn take(&mut self, files: &Files, step: Step) {
+        match step {
+            Step::Written(path, bytes) if path == files.saving => {
+                self.saving = Some((bytes, false))
+            }
+            Step::Written(path, bytes) if path == files.key => self.keys.push(bytes),
+            Step::Flushed(path) if path == files.saving => {
+                self.saving = self.saving.take().map(|(bytes, _)| (bytes, true));
+            }
+            Step::Flushed(path) if path == files.key => {
+                drop(self.keys.drain(..self.keys.len() - 1))
+            }
+            Step::Flushed(path) if path == files.folder => {
+                drop(self.logs.drain(..self.logs.len() - 1));
+            }
+            // a file that has the name was flushed before
+            Step::Flushed(path) if path == files.log => {}
+            Step::Renamed(from, to) if (&from, &to) == (&files.saving, &files.log) => {
+                let (log, is_safe) = self.saving.take().expect("a file beside the log");
+                assert!(is_safe, "it has the name before it is safe");
+                self.logs.push(Some(log));
+            }
+            step => panic!("{:?} is no step of sealing", step),
+        }
+    }
 
-    files.put(Some(&[&log[..], b"torn"].concat()), &van.key);
-    fs::create_dir(&files.torn).expect("a new folder");
-    let before = everything(&files.folder);
-    tests.look("a folder", matches!(files.seal(7, b"data"), Err(Error::System(_))));
-    tests.look("all is as it was", everything(&files.folder) == before);
-    fs::remove_dir(&files.torn).expect("the folder");
-    tests.goes_on(&files, &van);
+    /// What a power cut can leave of the two files.
+    fn cuts(&self) -> Vec<(Option<Vec<u8>>, Vec<u8>)> {
+        let with_each = |log: &Option<Vec<u8>>| {
+            self.keys.iter().map(|key| (log.clone(), key.clone())).collect()
+        };
+        self.logs.iter().flat_map::<Vec<_>, _>(with_each).collect()
+    }
+}
+
+/// The van with an entry of a type.
+fn entry_of(van: &Van, kind: u32) -> Van {
+    van.with(kind, &[kind as u8; 20])
+}
+
+/// The disks before each step of a call, and behind the last.
+fn disks(files: &Files, mut disk: Disk, kind: u32) -> Vec<Disk> {
+    let (log, key) = disk.cuts().pop().expect("what a process sees");
+    files.put(log.as_deref(), &key);
+    system::steps();
+    assert!(files.seal(kind, &[kind as u8; 20]).is_ok());
+    let mut disks = vec![disk.clone()];
+    for step in system::steps() {
+        disk.take(files, step);
+        disks.push(disk.clone());
+    }
+    disks
+}
+
+/// The vans whose log may be there when two have sealed behind this one, the second with type 8: with what
+/// was answered.
+fn vans_behind(van: &Van, kind: u32, answered: [bool; 2]) -> Vec<Van> {
+    let first = entry_of(van, kind);
+    let with_second = |van: &Van| if van.is_closed() { van.clone() } else { entry_of(van, 8) };
+    let mut vans = vec![with_second(&first)];
+    if !answered[1] {
+        vans.push(first);
+    }
+    if !answered[0] {
+        vans.push(with_second(van));
+    }
+    if answered == [false; 2] {
+        vans.push(van.clone());
+    }
+    vans
+}
+
+/// A process is ended behind any of its steps, the next one seals, and the power is cut behind any step of
+/// that: what the first had written and not made safe may be gone then, and the log goes on all the same,
+/// with all that was answered.
+fn cut_after_an_end(tests: &mut Tests) {
+    let files = tests.files("van-end-cut", &Van::new(0));
+    for (entries, kind) in [(0, 7), (2, 7), (2, CLOSING)] {
+        let van = Van::of(entries);
+        let first = disks(&files, Disk::of(&van), kind);
+        for (ended, left) in first.iter().enumerate() {
+            let second = disks(&files, left.clone(), 8);
+            for (at, disk) in second.iter().enumerate() {
+                let answered = [ended + 1 == first.len(), at + 1 == second.len()];
+                let vans = vans_behind(&van, kind, answered);
+                for (log, key) in disk.cuts() {
+                    let found = log.as_deref().unwrap_or_default();
+                    let there = vans.iter().find(|van| van.log == found);
+                    tests.look("all that was answered", there.is_some());
+                    files.put(log.as_deref(), &key);
+                    tests.goes_on(&files, there.expect("a log"));
+                }
+            }
+        }
+    }
 }
 
 /// While one seals, another comes before each of its steps, in this process and in a second: the other is
 /// held back and changes nothing, and the first goes on.
 fn two_at_once(tests: &mut Tests) {
-    let mut van = Van::new(3);
+    let mut van = Van::of(1);
     let files = tests.files("van-two", &van);
     let came = Arc::new(AtomicU64::new(0));
-    for step in 1..=SEALING {
+    for step in 1..=THERE + SEALING {
         let (same, coming) = (files.clone(), came.clone());
         let held_back = move || {
             let before = everything(&same.folder);
@@ -620,7 +662,7 @@ fn sealed_meanwhile(tests: &mut Tests) {
         let files = tests.files(&format!("van-meanwhile-{}", number), &van);
         let same = files.clone();
         system::before_lock(move || {
-            let work = || assert_eq!(same.seal(kind, b"the other").ok(), sealed(entries, 0));
+            let work = || assert_eq!(same.seal(kind, b"the other").ok(), sealed(entries));
             if in_another {
                 assert!(Process::begin(work).ends_well(), "the other process");
             } else {
@@ -628,6 +670,23 @@ fn sealed_meanwhile(tests: &mut Tests) {
             }
         });
         tests.goes_on(&files, &van.with(kind, b"the other"));
+    }
+}
+
+/// A program that asks for no lock changes the log when it was read already: the call is told, and leaves
+/// the log and the key as they are.
+fn changed_meanwhile(tests: &mut Tests) {
+    for (entries, step, kind) in
+        [(0, 1, ErrorKind::AlreadyExists), (2, THERE + 1, ErrorKind::Other)]
+    {
+        let van = Van::of(entries);
+        let files = tests.files(&format!("van-changed-{}", entries), &van);
+        let (same, other) = (files.clone(), van.with(8, b"by another program").log);
+        let there = other.clone();
+        system::before_step(step, move || write_over(&same.log, &other).expect("a file"));
+        tests.fails("it is told", files.seal(7, b"x"), kind);
+        tests.hold("the other's log", &files, &there, &van.key);
+        tests.look("nothing is left", names(&files.folder).len() == 2);
     }
 }
 
@@ -657,11 +716,14 @@ fn no_such_files(tests: &mut Tests) {
         tests.look("all is as it was", everything(&files.folder) == before);
     }
     fs::remove_dir(&inner).expect("the folder");
+    let before = everything(&files.folder);
+    let no_log = Answer { number: 24, beside: [0; 3] };
+    tests.look("a key is no log", seal_to(&files.key, &files.key, 7, b"x").ok() == Some(no_log));
+    tests.look("all is as it was", everything(&files.folder) == before);
     tests.goes_on(&files, &van);
 }
 
-/// A log or a key that may not be read or written, torn bytes that may not be kept, and a folder in which
-/// no log may be made.
+/// A log or a key that may not be read or written, and a folder in which no log may be made.
 fn by_the_rights(tests: &mut Tests) {
     for (number, (name, rights, entries)) in [
         ("log", 0, 2),
@@ -670,7 +732,6 @@ fn by_the_rights(tests: &mut Tests) {
         ("key", 0, 2),
         ("key", 0o200, 2),
         ("key", 0o444, 0),
-        ("log.torn", 0o444, 2),
         ("", 0o555, 0),
     ]
     .into_iter()
@@ -679,10 +740,6 @@ fn by_the_rights(tests: &mut Tests) {
         let van = Van::of(entries);
         let files = tests.files(&format!("van-rights-{}", number), &van);
         let path = files.folder.join(name);
-        if path == files.torn {
-            write_over(&files.log, &[&van.log[..], b"torn"].concat()).expect("a file");
-            write_over(&files.torn, b"kept").expect("a file");
-        }
         let set = |rights| fs::set_permissions(&path, rights).expect("its rights");
         let (before, usual) = (everything(&files.folder), fs::metadata(&path).expect("a file"));
         set(PermissionsExt::from_mode(rights));
@@ -695,8 +752,8 @@ fn by_the_rights(tests: &mut Tests) {
     }
 }
 
-/// Names of other kinds: links, of which what they lead to is changed and its folder flushed, a link by
-/// which a new log is made, bare names, and a key in another folder.
+/// Names of other kinds: links, of which what they lead to is changed and its folder flushed, and one that
+/// leads nowhere, bare names, and a key in another folder.
 fn other_names(tests: &mut Tests) {
     let mut van = Van::of(0);
     let files = tests.files("van-names", &van);
@@ -704,9 +761,13 @@ fn other_names(tests: &mut Tests) {
     let [log, key] = ["log", "key"].map(|name| links.join(name));
     symlink(&files.log, &log).expect("a link");
     symlink(&files.key, &key).expect("a link");
-    for data in [&b"a new log"[..], b"by links"] {
+    let nowhere = seal_to(&log, &key, 7, b"by a link to nowhere");
+    tests.look("no log", matches!(nowhere, Err(e) if e.kind() == ErrorKind::NotFound));
+    tests.hold("all is as it was", &files, b"", &van.key);
+    van = tests.seals(&files, &van, 7, b"a new log");
+    for data in [&b"by links"[..], b"and again"] {
         system::steps();
-        tests.look("by links", seal_to(&log, &key, 7, data).ok() == sealed(van.entries, 0));
+        tests.look("by links", seal_to(&log, &key, 7, data).ok() == sealed(van.entries));
         let flushed = Step::Flushed(files.folder.clone());
         tests.look("the folder of the log", system::steps().contains(&flushed));
         van = van.with(7, data);
@@ -716,7 +777,7 @@ fn other_names(tests: &mut Tests) {
     let bare = Process::begin(|| {
         env::set_current_dir(&files.folder).expect("the folder");
         let answer = seal_to(Path::new("log"), Path::new("key"), 7, b"bare");
-        assert_eq!(answer.ok(), sealed(2, 0));
+        assert_eq!(answer.ok(), sealed(3));
     });
     tests.look("bare names", bare.ends_well());
     van = van.with(7, b"bare");
@@ -725,39 +786,27 @@ fn other_names(tests: &mut Tests) {
     let apart = links.join("apart");
     fs::rename(&files.key, &apart).expect("another place");
     system::steps();
-    tests.look("a key apart", seal_to(&files.log, &apart, 7, b"apart").ok() == sealed(3, 0));
+    tests.look("a key apart", seal_to(&files.log, &apart, 7, b"apart").ok() == sealed(4));
     let flushed = Step::Flushed(files.folder.clone());
     tests.look("the folder of the log", system::steps().contains(&flushed));
     fs::rename(&apart, &files.key).expect("its place");
     tests.goes_on(&files, &van.with(7, b"apart"));
 }
 
-/// What a process that was ended has left, given what it found, the van that had all its answers and the
-/// one with the next entry: the van whose log is there, and whether there is a part of an entry, or one
+/// What a process that was ended has left, given the van that had all its answers and the one with the
+/// next entry: the van whose log is there, and whether there is an unfinished file beside it, or an entry
 /// that the key does not know of.
-fn left_by(
-    tests: &mut Tests,
-    files: &Files,
-    found: &[Vec<u8>; 2],
-    [van, next]: [Van; 2],
-) -> (Van, [bool; 2]) {
-    let there = files.bytes();
-    let is_untouched = there == *found;
-    let [log, key] = there;
-    let is_whole = log == next.log;
-    let has_all = log.starts_with(&van.log) && next.log.starts_with(&log);
-    tests.look("all that was answered, and a part of the next or all", is_untouched || has_all);
-    let is_its_key = key == van.key || is_whole && key == next.key;
-    tests.look("the old key or the next", is_untouched || is_its_key);
-    let is_part = !is_whole && log.len() > van.log.len();
-    let van = if is_whole { next } else { van };
-    let is_behind = key != van.key;
-    (van, [is_part, is_behind])
+fn left_by(tests: &mut Tests, files: &Files, [van, next]: [Van; 2]) -> (Van, [bool; 2]) {
+    let [log, key] = files.bytes();
+    let is_next = log == next.log;
+    tests.look("all that was answered, and perhaps the next", is_next || log == van.log);
+    let van = if is_next { next } else { van };
+    (van.clone(), [files.saving.exists(), key != van.key])
 }
 
 /// Processes that seal one entry after another, ended at any moment, several in each log: all that was
-/// answered is there, and of what each left a copy goes on, closes and passes. Gives how many left a part
-/// of an entry, and how many one that the key does not know of.
+/// answered is there, and of what each left a copy goes on, closes and passes. Gives how many left an
+/// unfinished file, and how many an entry that the key does not know of.
 fn ended_in_sealing(tests: &mut Tests) -> [u64; 2] {
     const IN_A_LOG: u64 = 5;
     let mut random = Random::new(fresh_seed());
@@ -771,26 +820,24 @@ fn ended_in_sealing(tests: &mut Tests) -> [u64; 2] {
             files.put(None, &van.key);
         }
         let entry = |j: u64| some_entry(number << 32 | j);
-        let found = files.bytes();
         [begun, answered].iter().for_each(|count| count.store(van.entries, SeqCst));
         end_in_the_middle(&mut random, || loop {
             let j = begun.fetch_add(1, SeqCst);
             let (kind, data) = entry(j);
-            let answer = files.seal(kind, &data).expect("an answer");
-            assert_eq!((answer.number, answer.beside[0]), (0, j));
+            assert_eq!(files.seal(kind, &data).ok(), sealed(j));
             answered.store(j + 1, SeqCst);
         });
         let with = |van: Van, j: u64| van.with(entry(j).0, &entry(j).1);
         van = (van.entries..answered.load(SeqCst)).fold(van, with);
         let next = with(van.clone(), van.entries);
-        let (there, is_left) = left_by(tests, &files, &found, [van, next]);
+        let (there, is_left) = left_by(tests, &files, [van, next]);
         left.iter_mut().zip(is_left).for_each(|(count, is_so)| *count += u64::from(is_so));
         van = there;
         let [log, key] = files.bytes();
         copy.put(Some(&log), &key);
         tests.goes_on(&copy, &van);
     }
-    tests.look("some ended in the middle", left[1] > 0);
+    tests.look("some ended in the middle", left[0] > 0);
     left
 }
 
@@ -804,16 +851,17 @@ pub(crate) fn look(tests: &mut Tests) {
     failing_again_and_again(tests);
     after_a_cut(tests);
     failing_after_a_cut(tests);
-    torn_bytes(tests);
+    cut_after_an_end(tests);
     two_at_once(tests);
     sealed_meanwhile(tests);
+    changed_meanwhile(tests);
     no_such_files(tests);
     by_the_rights(tests);
     other_names(tests);
-    let [parts, behind] = ended_in_sealing(tests);
+    let [unfinished, behind] = ended_in_sealing(tests);
     println!(
         "{} things of a van's log in a file are as they should be; of {} ends while entries are sealed \
-         {} left one that the key did not know of, {} a part of one",
-        tests.looked_at, ENDS, behind, parts
+         {} left an unfinished file, {} an entry that the key did not know of",
+        tests.looked_at, ENDS, unfinished, behind
     );
 }

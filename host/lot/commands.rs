@@ -298,9 +298,9 @@ pub const COMMANDS: [Command; 23] = [
         text:
             "DATA is a file of 0 to 4,096 bytes. LOG is made if it is not there; the key is A(0) \
              then. When the entry is safe on the disk the key is overwritten with the next one. A \
-             command that is cut off in between is finished by the next; bytes behind the last \
-             whole entry are moved to LOG.torn, and a line on standard error says so. Keep the \
-             key's file in memory (a file system such as /run): a disk keeps what is overwritten.",
+             command that is cut off in between is finished by the next. LOG is replaced whole, as \
+             LOG.saving until all of it is safe. Keep the key's file in memory (a file system such \
+             as /run): a disk keeps what is overwritten.",
         run: van::seal,
     },
     Command {

@@ -150,6 +150,8 @@ fn page() -> Vec<Part> {
         );
         parts.push(Item(head, text));
     }
+    parts.push(Section("HELP"));
+    parts.extend(HELP.iter().map(|(head, text)| Item(head.to_string(), text.to_string())));
     parts.push(Section("OPTIONS OF EVERY COMMAND"));
     parts.extend(COMMON.iter().map(of_choice));
     parts.push(Section("EXIT STATUS"));
@@ -187,6 +189,19 @@ const DESCRIPTION: [&str; 5] = [
     "With --json an answer is an object on one line: command, status, and what the line says under \
      names of its own; a refusal has refused, meaning and, where it has a place, element, row, \
      level, hops, proof, line or entry.",
+];
+
+const HELP: [(&str, &str); 2] = [
+    (
+        "lot help [COMMAND | --man]",
+        "This page; the help of a command; or this page in the form that man reads: lot help --man \
+         >lot.1, and man -l lot.1.",
+    ),
+    (
+        "lot --version",
+        "One line: the version of this program, those of the store and of the held file, the most \
+         elements of a log, and the SHA-256 of the proved library that it was linked with.",
+    ),
 ];
 
 const REFUSALS: &str =

@@ -11,20 +11,13 @@ use crate::files::{must_be_one, must_differ, read, read_first};
 use crate::house::{done, ENTRY_MOST};
 use crate::said::{Call, Outcome, Said, Stop, Trouble, DAMAGED};
 use crate::teller::Teller;
-use crate::text::shown;
 use crate::words::Words;
 
 /// The bytes of a key.
 const KEY: usize = 32;
 
-/// What was sealed: the entry's number, the bytes of its data, and how many stood in its place.
-struct Sealed {
-    entry: u64,
-    bytes: u64,
-    torn: u64,
-}
-
-fn sealed(words: &Words, kind: u32, data: Option<&OsStr>) -> Result<Sealed, Stop> {
+/// Seals an entry; gives its number, and the bytes of its data.
+fn sealed(words: &Words, kind: u32, data: Option<&OsStr>) -> Result<(u64, u64), Stop> {
     let (name, key) = (words.word(0), &words.needed("--key")?[0][..]);
     let (log, key_path) = (words.own(name)?, words.own(key)?);
     must_differ(key, &[Some(name), data])?;
@@ -39,9 +32,8 @@ fn sealed(words: &Words, kind: u32, data: Option<&OsStr>) -> Result<Sealed, Stop
         let is_key = error.kind() == ErrorKind::WouldBlock;
         Trouble::with_file(if is_key { key } else { name }, &error)
     })?;
-    let [entry, torn, _] = answer.beside;
     match answer.number {
-        0 => Ok(Sealed { entry, bytes: data.len() as u64, torn }),
+        0 => Ok((answer.beside[0], data.len() as u64)),
         24 => Err(Said::refused(answer, Call::Makes).status(DAMAGED).into()),
         _ => Err(Said::refused(answer, Call::Makes).into()),
     }
@@ -52,34 +44,22 @@ fn must_open(name: &OsStr) -> io::Result<()> {
     OpenOptions::new().read(true).write(true).open(name).map(|_| ())
 }
 
-/// Says of bytes that were no whole entry where they are.
-fn with_torn(said: Said, name: &OsStr, torn: u64) -> Said {
-    if torn == 0 {
-        return said;
-    }
-    let name = shown(name);
-    let found = format!("{}: {} bytes at its end were no whole entry", name, torn);
-    said.with("torn", torn).aside(format!("{}: they are in {}.torn now", found, name))
-}
-
 pub fn seal(words: &Words, _: &Teller) -> Outcome {
     let number = words.needed_number("--type")?;
     let kind = u32::try_from(number).map_err(|_| words.wrong("a type is below 2^32"))?;
     if kind == CLOSING {
         return Err(words.wrong("type 1 closes the log: that is lot seal-close").into());
     }
-    let Sealed { entry, bytes, torn } = sealed(words, kind, Some(words.word(1)))?;
+    let (entry, bytes) = sealed(words, kind, Some(words.word(1)))?;
     let said = Said::good(format!("entry {}, type {}, {} bytes of data", entry, kind, bytes));
-    let said = said.with("entry", entry).with("type", number).with("bytes", bytes);
-    Ok(with_torn(said, words.word(0), torn))
+    Ok(said.with("entry", entry).with("type", number).with("bytes", bytes))
 }
 
 pub fn seal_close(words: &Words, _: &Teller) -> Outcome {
     let data = words.words_from(1).first().map(|data| &data[..]);
-    let Sealed { entry, torn, .. } = sealed(words, CLOSING, data)?;
+    let (entry, _) = sealed(words, CLOSING, data)?;
     let said = Said::good(format!("entry {}, closed", entry));
-    let said = said.with("entry", entry).with("type", u64::from(CLOSING));
-    Ok(with_torn(said, words.word(0), torn))
+    Ok(said.with("entry", entry).with("type", u64::from(CLOSING)))
 }
 
 pub fn seal_check(words: &Words, _: &Teller) -> Outcome {

@@ -23,20 +23,28 @@ limit_files() {
     mkdir limited
     cd limited
     full_set
-    limited 500 still complains_like 2 "lot init: new.lot*: $large" init new.lot --log 7 --room 16
-    limited 1056 still complains_like 2 "lot grow: store.lot*: $large" grow store.lot --room 64
-    limited 100 still complains_like 2 "lot prove: new*: $large" prove store.lot 5 -o new
-    limited 100 still complains_like 2 "lot prove: proof*: $large" prove store.lot 5 -o proof
-    limited 100 still complains_like 2 "lot prove-growth: new*: $large" prove-growth store.lot 5 -o new
-    limited 40 still complains_like 2 "lot hold: new*: $large" hold new --log 7
-    limited 100 still complains_like 2 "lot advance: held*: $large" advance held 12 "${T[12]}" "$rules/growth.8.12"
-    limited 100 still complains_like 2 "lot present: new*: $large" present "$rules/keys.txt" "${listed[0]}" -o new
-    limited 20 still complains_like 2 "lot absent: new*: $large" absent "$rules/keys.txt" "${others[9]}" -o new
-    limited $(($(stat -c %s log) + 20)) no_room_to_seal "$large"
-    # an append needs no more room than the store has already
-    limited 1056 expect 0 "13 ${T[13]} $rules/entry.1" append store.lot "$rules/entry.1"
+    limited 4100 still complains_like 2 "lot init: new.lot*: $large" init new.lot --log 7 --room 64
+    limited 4100 still complains_like 2 "lot grow: store.lot*: $large" grow store.lot --room 64
+    limited 4100 still complains_like 2 "lot present: new*: $large" present "$rules/keys.txt" "${listed[0]}" -o new
+    limited 4100 no_room_to_seal "$large"
+    # the emulator has a file of its own, of some thousand bytes, for which the limit holds too
+    [ ${#emulator[@]} -gt 0 ] || low_limits "$large"
+    expect 0 "13 ${T[13]} $rules/entry.1" append store.lot "$rules/entry.1"
     after_full
     cd ..
+}
+
+low_limits() { # TEXT
+    limited 100 still complains_like 2 "lot prove: new*: $1" prove store.lot 5 -o new
+    limited 100 still complains_like 2 "lot prove: proof*: $1" prove store.lot 5 -o proof
+    limited 100 still complains_like 2 "lot prove-growth: new*: $1" prove-growth store.lot 5 -o new
+    limited 40 still complains_like 2 "lot hold: new*: $1" hold new --log 7
+    limited 100 still complains_like 2 "lot advance: held*: $1" advance held 12 "${T[12]}" "$rules/growth.8.12"
+    limited 20 still complains_like 2 "lot absent: new*: $1" absent "$rules/keys.txt" "${others[9]}" -o new
+    # an append needs no more room than the store has already
+    cp store.lot copy.lot
+    limited 1056 expect 0 "13 ${T[13]} $rules/entry.1" append copy.lot "$rules/entry.1"
+    rm copy.lot
 }
 
 # The log has what it had and no part of an entry behind it, the key has not moved, and no new log is left.

@@ -46,7 +46,7 @@ refuse_more() {
     still refuses 3 23 '' seal log --key key3 --type 2 data.1
     still refuses 3 23 '' seal-close log --key key3
     { cat log; printf torn; } >log3
-    still refuses 3 23 '' seal log3 --key key3 --type 2 data.1
+    still refuses 3 24 " at entry $entries" seal log3 --key key3 --type 2 data.1
     rm key3 log3
 }
 
@@ -101,59 +101,37 @@ cut_off_between() {
     rm cut cut.key
 }
 
-# A torn entry at the end, cut after every byte, is moved out of the log by the next seal.
+# A log is replaced whole, so one that ends in the middle of an entry, or has a length that leads past its end, was not
+# left so by a seal that was cut off: it is refused, and nothing of it is lost.
 torn_entries() {
     local size whole
     whole=$(stat -c %s van.1)
+    cp key.1 torn.key
     for ((size = 1; size < whole; size++)); do
         head -c "$size" van.1 >torn
-        torn_at 0 "$size"
+        still refuses 3 24 ' at entry 0' seal torn --key torn.key --type 2 data.1
     done
     for ((size = 1; size < 38; size++)); do
         head -c $((whole + size)) van.2 >torn
-        torn_at 1 "$size"
+        still refuses 3 24 ' at entry 1' seal-close torn --key torn.key
     done
-    two_torn
-    changed_length
-}
-
-# The next entry takes the torn one's place, and what stood there is told and kept.
-torn_at() { # ENTRY BYTES
-    local next=$(($1 + 1))
-    cp "key.$1" torn.key
-    tail -c "$2" torn >part
-    expect_with 0 "entry $1, type ${kinds[next]}, $(stat -c %s "data.$next") bytes of data" \
-        "lot seal: torn: $2 bytes at its end were no whole entry: they are in torn.torn now" \
-        seal torn --key torn.key --type "${kinds[next]}" "data.$next"
-    same torn "van.$next"
-    same torn.key "key.$next"
-    same torn.torn part
-    rm torn torn.key torn.torn part
-}
-
-# A second torn end is kept behind the first.
-two_torn() {
-    printf 'one' >torn
-    cp key.0 torn.key
-    capture seal torn --key torn.key --type "${kinds[1]}" data.1
-    printf 'two' >>torn
-    capture seal-close torn --key torn.key
-    [[ $status == 0 && $aside == 'lot seal-close: torn: 3 bytes at its end '* ]] || fail 'to be told of 3 bytes'
-    [ "$(<torn.torn)" = onetwo ] || fail 'both torn ends in torn.torn'
-    rm torn torn.key torn.torn
-}
-
-# Whoever makes a length larger has the rest of the log taken for a torn entry: it is not lost.
-changed_length() {
     cp van.2 torn
-    cp key.2 torn.key
     printf '\017\377' | dd of=torn bs=1 seek=4 conv=notrunc status=none
-    cp torn was
-    capture seal torn --key torn.key --type "${kinds[3]}" data.3
-    [[ $status == 0 && $aside == "lot seal: torn: $(stat -c %s was) bytes at its end "* ]] || fail 'to be told of all bytes'
-    same torn.torn was
-    refuses 1 24 ' at entry 0' seal-check torn --first-key key.0
-    rm torn torn.key torn.torn was
+    still refuses 3 24 ' at entry 0' seal torn --key torn.key --type 2 data.1
+    rm torn torn.key
+    left_beside
+}
+
+# What a seal that was ended has left beside the log is overwritten by the next.
+left_beside() {
+    cp van.1 torn
+    cp key.1 torn.key
+    printf 'what an earlier seal left' >torn.saving
+    expect 0 "entry 1, type ${kinds[2]}, 0 bytes of data" seal torn --key torn.key --type "${kinds[2]}" data.2
+    same torn van.2
+    same torn.key key.2
+    gone torn.saving
+    rm torn torn.key
 }
 
 # Every byte turned and every length, and a log that goes on after its closing entry.

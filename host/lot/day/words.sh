@@ -260,9 +260,7 @@ json_van() {
     cp first key
     json 0 '{"entry":0,"type":2,"bytes":11}' seal log --key key --type 2 data
     json 1 '{"refused":25,"meaning":"no closing entry"}' seal-check log --first-key first
-    printf torn >>log
-    json 0 '{"entry":1,"type":1,"torn":4}' seal-close log --key key
-    rm log.torn
+    json 0 '{"entry":1,"type":1}' seal-close log --key key
     json 3 '{"refused":23,"meaning":"van'"'"'s log closed"}' seal log --key key --type 2 data
     json 3 '{"refused":23,"meaning":"van'"'"'s log closed"}' seal-close log --key key
     json 0 '{"answer":"accepted","entries":2}' seal-check log --first-key first

@@ -1,13 +1,14 @@
-//! A van's log in a file, and its key in another. The entry reaches the disk before the key moves: a
-//! van that is cut off in between has an entry more than its key knows of, and the next call finds that
-//! out and moves the key.
+//! A van's log in a file, and its key in another. The log is replaced whole, and reaches the disk before
+//! the key moves: a van that is cut off in between has an entry more than its key knows of, and the
+//! next call finds that out and moves the key.
 
-use std::fs::{self, File, OpenOptions};
-use std::io::{self, ErrorKind, Read, Write};
+use std::fs::{File, OpenOptions};
+use std::io::{self, ErrorKind, Read};
 use std::os::unix::fs::FileExt;
 use std::path::Path;
 
 use super::super::{clear_stack, seal_add, Answer, Digest, CLOSING, SEALED_BESIDE};
+use super::whole::{put, Before};
 use super::{place, read_all, seated};
 
 /// The bytes of an entry's type and length, and the most bytes of its data.
@@ -19,23 +20,25 @@ const KEY: usize = 32;
 
 /// Seals an entry behind a van's log, which is made if it is not there, and overwrites the key, in its
 /// place in the file of 32 bytes, with the next one, or with zeros if the type is 1; returns when both
-/// are safe on the disk. Answers the entry's number, from 0, and how many bytes it found behind the
-/// last whole entry: these are moved to a file beside the log, under its name and `.torn`, behind what
-/// stands there. Refusals: 3, 6, 23, also where the log is closed and the key is not, and before these
-/// 24 with the number of an entry in the log whose length none can have; then nothing is sealed.
+/// are safe on the disk. Answers the entry's number, from 0. Refusals: 3, 6, 23, also where the log is
+/// closed and the key is not, and before these 24 with the number of an entry in the log that is cut
+/// short or whose length none can have; then nothing is sealed.
 ///
-/// At every moment the log is the one before or the new one, perhaps with a part of the new entry
-/// behind it; and with the next call the key is that of the log. That another process is sealing with
-/// this key is an error of the kind `WouldBlock`. After an error of the system the entry is sealed or
-/// it is not; in the log it is there whole or not at all.
+/// At every moment the log is the one before or the new one, whole, and with the next call the key is
+/// that of the log. That another process is sealing with this key is an error of the kind `WouldBlock`.
+/// After an error of the system the entry is in the log, or it is not.
 #[inline]
 pub fn seal_to(log: &Path, key: &Path, kind: u32, data: &[u8]) -> io::Result<Answer> {
     let key_file = seated(key, OpenOptions::new().read(true).write(true))?;
-    let bytes = log_of(log)?;
-    let walked = match walk(bytes.as_deref().unwrap_or_default()) {
+    let before = log_of(log)?;
+    let bytes = before.as_deref().unwrap_or_default();
+    let walked = match walk(bytes) {
         Ok(walked) => walked,
         Err(entry) => return Ok(Answer { number: 24, beside: [entry, 0, 0] }),
     };
+    // a process that was ended may have left a key that is not on the disk yet: no entry may get there
+    // before the key under which it is sealed
+    key_file.sync_all()?;
     let mut key = Key::of(&key_file)?;
     if walked.last.map_or(false, |last| key.moves_over(last)) {
         key.store(&key_file)?;
@@ -50,19 +53,23 @@ pub fn seal_to(log: &Path, key: &Path, kind: u32, data: &[u8]) -> io::Result<Ans
     if answer.number != 0 {
         return Ok(answer);
     }
-    let torn = bytes.as_deref().map_or(&[][..], |bytes| &bytes[walked.whole..]);
-    keep_torn(log, torn)?;
-    put_behind(log, walked.whole, &out, bytes.is_none())?;
+    let there = before.as_deref().map_or(Before::Nothing, Before::These);
+    put(log, &[bytes, &out].concat(), there)?;
     key.store(&key_file)?;
-    Ok(Answer { number: 0, beside: [walked.entries, torn.len() as u64, 0] })
+    Ok(Answer { number: 0, beside: [walked.entries, 0, 0] })
 }
 
-/// The log's bytes, if it is there.
+/// The log's bytes, if it is there, all of them on the disk and under this name: the key must not move
+/// over an entry that a power cut could take back.
 fn log_of(path: &Path) -> io::Result<Option<Vec<u8>>> {
-    match File::open(path) {
-        Err(error) if error.kind() == ErrorKind::NotFound => Ok(None),
-        file => read_all(file?, 0).map(Some),
-    }
+    let file = match File::open(path) {
+        Err(error) if error.kind() == ErrorKind::NotFound => return Ok(None),
+        file => file?,
+    };
+    let bytes = read_all(&file, 0)?;
+    file.sync_all()?;
+    place::sync_folder(&path.canonicalize()?)?;
+    Ok(Some(bytes))
 }
 
 /// An entry of a log, with the chain before it.
@@ -74,39 +81,41 @@ struct Entry<'a> {
     bytes: &'a [u8],
 }
 
-/// A log, read to its last whole entry.
+impl<'a> Entry<'a> {
+    /// The entry with which a part of a log begins, if there is a whole one that is not too long.
+    fn first_of(log: &'a [u8], before: Digest) -> Option<Entry<'a>> {
+        let head = log.get(..HEAD)?;
+        let kind = u32::from_be_bytes([head[0], head[1], head[2], head[3]]);
+        let length = usize::from(u16::from_be_bytes([head[4], head[5]]));
+        let bytes = log.get(..SEALED_BESIDE + length).filter(|_| length <= DATA_MOST)?;
+        Some(Entry { before, kind, data: &bytes[HEAD..HEAD + length], bytes })
+    }
+}
+
+/// A log, read to its end.
 struct Walked<'a> {
     entries: u64,
-    whole: usize,
+    length: usize,
     last: Option<Entry<'a>>,
     chain: Digest,
     is_closed: bool,
 }
 
-/// Reads a log; what it has behind its last whole entry is a part of one. Where an entry's length is
-/// over the most, the log is no van's, and the entry's number comes back.
+/// Reads a log. Where an entry is cut short, or its length is over the most, its number comes back: a
+/// log that is replaced whole is never left so.
 #[inline]
 fn walk(log: &[u8]) -> Result<Walked<'_>, u64> {
     let chain = [0; 32];
-    let mut walked = Walked { entries: 0, whole: 0, last: None, chain, is_closed: false };
+    let mut walked = Walked { entries: 0, length: 0, last: None, chain, is_closed: false };
     // the library says what the chain becomes; it does not depend on the key
     let mut out = [0; DATA_MOST + SEALED_BESIDE];
-    while let Some(head) = log[walked.whole..].get(..HEAD) {
-        let length = usize::from(u16::from_be_bytes([head[4], head[5]]));
-        if length > DATA_MOST {
-            return Err(walked.entries);
-        }
-        let bytes = match log[walked.whole..].get(..SEALED_BESIDE + length) {
-            Some(bytes) => bytes,
-            None => break,
-        };
-        let kind = u32::from_be_bytes([head[0], head[1], head[2], head[3]]);
-        let entry = Entry { before: walked.chain, kind, data: &bytes[HEAD..HEAD + length], bytes };
-        let _ = seal_add(&mut [1; KEY], &mut walked.chain, kind, entry.data, &mut out);
-        walked.last = Some(entry);
-        walked.is_closed |= kind == CLOSING;
+    while walked.length < log.len() {
+        let entry = Entry::first_of(&log[walked.length..], walked.chain).ok_or(walked.entries)?;
+        let _ = seal_add(&mut [1; KEY], &mut walked.chain, entry.kind, entry.data, &mut out);
+        walked.is_closed |= entry.kind == CLOSING;
         walked.entries += 1;
-        walked.whole += bytes.len();
+        walked.length += entry.bytes.len();
+        walked.last = Some(entry);
     }
     Ok(walked)
 }
@@ -168,32 +177,4 @@ impl Drop for Key {
             unsafe { std::ptr::write_volatile(byte, 0) };
         }
     }
-}
-
-/// Keeps what stands behind the last whole entry of a log: a part of an entry that was cut off, or of
-/// a log that somebody has changed, which the office should see.
-fn keep_torn(log: &Path, torn: &[u8]) -> io::Result<()> {
-    if torn.is_empty() {
-        return Ok(());
-    }
-    let path = place::next_to(log, ".torn");
-    let mut file = OpenOptions::new().append(true).create(true).open(&path)?;
-    file.write_all(torn)?;
-    file.sync_all()?;
-    place::sync_folder(&path.canonicalize()?)
-}
-
-/// Puts an entry behind the whole part of a log; of one that can't be written nothing is left, nor of
-/// a log that is new.
-fn put_behind(log: &Path, whole: usize, entry: &[u8], is_new: bool) -> io::Result<()> {
-    let file = OpenOptions::new().write(true).create(true).open(log)?;
-    // what stands behind it is kept elsewhere by now
-    file.set_len(whole as u64)?;
-    let written = file.write_all_at(entry, whole as u64).and_then(|()| file.sync_all());
-    if written.is_err() {
-        // the first error is the one to tell
-        let _ = if is_new { fs::remove_file(log) } else { file.set_len(whole as u64) };
-    }
-    written?;
-    place::sync_folder(&log.canonicalize()?)
 }

@@ -58,28 +58,33 @@ fn place_of(path: &Path) -> io::Result<PathBuf> {
 /// Fills a file that is to take the place of the one at the path, and waits until all of it is on the
 /// disk. What an earlier attempt left in it goes first.
 fn fill(mut file: &File, path: &Path, bytes: &[u8], before: Before) -> io::Result<()> {
-    must_be(path, before)?;
+    if matches!(before, Before::Nothing) && fs::symlink_metadata(path).is_ok() {
+        return Err(ErrorKind::AlreadyExists.into());
+    }
+    let old = file_at(path)?;
+    must_hold(old.as_ref(), before)?;
     file.set_len(0)?;
-    if let Some(old) = file_at(path)? {
-        place::make_like(file, &old)?;
+    if let Some(old) = &old {
+        place::make_like(file, old)?;
     }
     file.write_all(bytes)?;
     file.sync_all()
 }
 
-/// Whether there stands at the path what must.
-fn must_be(path: &Path, before: Before) -> io::Result<()> {
-    match before {
-        Before::Anything => Ok(()),
-        Before::Nothing if fs::symlink_metadata(path).is_ok() => {
-            Err(ErrorKind::AlreadyExists.into())
-        }
-        Before::Nothing => Ok(()),
-        Before::These(bytes) if first_bytes(path, bytes.len() + 1)? != bytes => {
-            Err(io::Error::new(ErrorKind::Other, "another process has changed it meanwhile"))
-        }
-        Before::These(_) => Ok(()),
+/// Looks whether the file that is there holds what it must; of a longer one no more is read than shows
+/// that.
+fn must_hold(old: Option<&File>, before: Before) -> io::Result<()> {
+    let bytes = match before {
+        Before::These(bytes) => bytes,
+        Before::Anything | Before::Nothing => return Ok(()),
+    };
+    let mut found = vec![];
+    let old = old.ok_or_else(|| io::Error::from(ErrorKind::NotFound))?;
+    old.take(bytes.len() as u64 + 1).read_to_end(&mut found)?;
+    if found != bytes {
+        return Err(io::Error::new(ErrorKind::Other, "another process has changed it meanwhile"));
     }
+    Ok(())
 }
 
 /// The first bytes of a file: all of them, or as many as are asked for.
