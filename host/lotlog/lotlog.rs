@@ -5,7 +5,7 @@
 //! done, and where it answers with numbers they stand in [`Answer::beside`]. Positions count from
 //! 1. A store holds the digests of entries and not the entries, which are the caller's to keep.
 //!
-//! [`file`] keeps a store in a file, safely, and what a practice holds. A program links the archive
+//! [`file`] keeps a store in a file, safely, what a practice holds, and a van's log. A program links the archive
 //! that `host/run library` makes (README has the line), which needs at most memcpy, memmove and memset,
 //! as every Rust program has them.
 //!
