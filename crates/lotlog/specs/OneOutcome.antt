@@ -52,10 +52,14 @@ use Rattle.hmac.specs.Told.{codedTold}
 use Rattle.hmac.specs.Promises as hmac
 use Rattle.sealed.specs.Told.{leftTold, checkedTold}
 use Rattle.sealed.specs.Promises as sealed
+use Rattle.copies.specs.Calls.{compareCall}
+use Rattle.compare.specs.Told.{comparedTold}
+use Rattle.compare.specs.Promises as compare
 use Rattle.lotlog.specs.Exports.{telling, one-told, leaving, one-left, writing, one-wrote, showing, one-showed}
 use Rattle.lotlog.specs.Outcomes.{lotHash, lotStart, lotCount, lotAppend, lotDigestAt, lotAudit, lotHeldStart, lotHeldAt, lotHeldWrite, lotHeldRead, lotBuildMembership, lotBuildAdvancement, lotCheckMembership, lotCheckAdvancement, lotDispute, lotDiffering}
 use Rattle.lotlog.specs.Recalls.{lotHandle, lotTrieRoot, lotProvePresence, lotProveAbsence, lotCheckPresence, lotCheckAbsence, lotTrieClash}
 use Rattle.lotlog.specs.Sealing.{sealing, one-sealed, lotMac, lotSealAdd, lotSealCheck}
+use Rattle.lotlog.specs.Comparing.{lotCompare}
 
 -- where a crate says that telling loses nothing, answers that are told as one outcome are one
 lossless : {A B : Type 0} (told : A → B) → ((x y : A) → told x ≡ told y → x ≡ y) → (o : B) → One told o
@@ -177,6 +181,11 @@ sealed-add = sealed.add-one
 pub sealed-check : (first log : Bytes) → One checkedTold (checkCall hashOf first log)
 sealed-check = sealed.check-one
 
+-- ---- compare
+
+pub compare-compare : (s t : Bytes) → One comparedTold (compareCall v1 s t)
+compare-compare = compare.compare-one
+
 -- ---- the exports: the number returned, the numbers of `answer`, and lent memory
 
 pub lot-hash : (m d : Bytes) → One leaving (lotHash m d)
@@ -256,3 +265,6 @@ lot-seal-add key y kind text out = one-sealed (lotSealAdd key y kind text out)
 
 pub lot-seal-check : (first log : Bytes) → One telling (lotSealCheck first log)
 lot-seal-check first log = one-told (lotSealCheck first log)
+
+pub lot-compare : (s t : Bytes) → One telling (lotCompare s t)
+lot-compare s t = one-told (lotCompare s t)

@@ -4,6 +4,7 @@
 mod answering; // what an export gives back
 mod building; // building proofs
 mod checking; // checking proofs
+mod comparing; // two stores that should agree
 mod disputing; // the dispute
 mod hashing; // SHA-256
 mod holding; // held states

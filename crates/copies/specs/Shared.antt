@@ -1,0 +1,129 @@
+-- WHAT TWO STORES THAT AGREE GIVE, for any hash: where the answer is "equal", or that one is the start of the other, every digest, every held state and every
+-- proof up to the lower count is the same from both.
+use mathlib.Core.Path.{_≡_, refl, sym, ap, _∙_}
+use mathlib.Core.Logic.{inl}
+use Prim.Native.Nat.{ℕ, zero, suc, _+_, _-_, _≤_, _<_}
+use native.Mathlib.Nat.{le-trans, min-le-left, min-le-right, min-eq-left, min-eq-right}
+use native.Mathlib.Decide.{decLe}
+use native.Mathlib.Omega.{arith}
+use lib.ListN.{length, getD, take, drop}
+use lib.Seq.{getD-take, getD-drop}
+use Rattle.lists.specs.Bytes.{Bytes}
+use Rattle.lists.specs.Pasted.{part-same}
+use Rattle.rules.specs.Numbers.{Version}
+use Rattle.rules.specs.Messages.{startMsg}
+use Rattle.rules.specs.Store.{place, damaged, logOf, countOf, bodyOf, fieldsSize, fieldsOf, tOf}
+use Rattle.rules.specs.Places.{place-below, place-fits, count-le}
+use Rattle.rules.specs.Damage.{ordered}
+use Rattle.rules.specs.Stored.{t-start, t-at}
+use Rattle.rules.specs.Calls.{digestCall, heldCall, buildMembershipCall, buildAdvancementCall}
+use Rattle.rules.specs.Alike.{Agree, Level, digest-alike, held-alike, membership-alike, advancement-alike}
+use Rattle.copies.specs.Comparing.{common, Finding, equal, firstShorter, secondShorter, differ}
+use Rattle.copies.specs.Calls.{found, compareCall}
+use Rattle.copies.specs.Meaning.{SameTo, Shows, Comparable, found-shows}
+
+-- the answer is "equal", or that one is the start of the other
+abbrev pub Agreeing : Finding → Type 0
+Agreeing equal = Unit {0}
+Agreeing firstShorter = Unit {0}
+Agreeing secondShorter = Unit {0}
+Agreeing (differ n b) = ⊥
+
+-- up to n the two stores give the same
+pub record GiveTheSame (H : Bytes → Bytes) (v : Version) (s t : Bytes) (n : ℕ) : Type 0 where
+  pub digests : (j : ℕ) → j ≤ n → digestCall H v t j ≡ digestCall H v s j
+  pub held : (j : ℕ) → j ≤ n → heldCall H v t j ≡ heldCall H v s j
+  pub memberships : (i m : ℕ) (out : Bytes) → m ≤ n → buildMembershipCall H v t i m out ≡ buildMembershipCall H v s i m out
+  pub advancements : (i m : ℕ) (out : Bytes) → m ≤ n → buildAdvancementCall H v t i m out ≡ buildAdvancementCall H v s i m out
+
+-- ---- an element that is the same has the same body and the same T
+
+module _ (H : Bytes → Bytes) (v : Version) (s t : Bytes) (j : ℕ) (from-one : 1 ≤ j) (first-fits : place v j ≤ length s) (second-fits : place v j ≤ length t)
+    (e : fieldsOf v s j ≡ fieldsOf v t j) where
+  abbrev at : ℕ
+  at = place v (j - 1)
+
+  room : at + fieldsSize v ≤ place v j
+  room = let p = place-below v (j - 1) j (omega arith) in omega arith
+
+  byte : (i : ℕ) → i < fieldsSize v → getD t (at + i) 0 ≡ getD s (at + i) 0
+  byte i h =
+      sym (getD-take (fieldsSize v) (drop at t) i 0 h ∙ getD-drop at t i 0)
+      ∙ ap (λ (x : Bytes). getD x i 0) (sym e)
+      ∙ getD-take (fieldsSize v) (drop at s) i 0 h
+      ∙ getD-drop at s i 0
+
+  part : (a k : ℕ) → a + k ≤ fieldsSize v → take k (drop (at + a) t) ≡ take k (drop (at + a) s)
+  part a k h = part-same t s (at + a) (at + a) k (omega (arith, room)) (omega (arith, room)) (λ i g. at-byte i g)
+    where
+      at-byte : (i : ℕ) → i < k → getD t (at + a + i) 0 ≡ getD s (at + a + i) 0
+      at-byte i g =
+          let q : at + a + i ≡ at + (a + i) = omega arith in
+          ap (λ (n : ℕ). getD t n 0) q ∙ byte (a + i) (omega arith) ∙ ap (λ (n : ℕ). getD s n 0) (sym q)
+
+  same-body : bodyOf v t j ≡ bodyOf v s j
+  same-body =
+      let q : at + 0 ≡ at = omega arith in
+      ap (λ (n : ℕ). take (v .before + 32) (drop n t)) (sym q) ∙ part 0 (v .before + 32) (omega arith) ∙ ap (λ (n : ℕ). take (v .before + 32) (drop n s)) q
+
+  same-t : tOf H v t j ≡ tOf H v s j
+  same-t = t-at H v t j from-one ∙ part (v .before + 32) 32 (omega arith) ∙ sym (t-at H v s j from-one)
+
+-- ---- the first store is the start of the other
+
+module _ (H : Bytes → Bytes) (v : Version) (s t : Bytes) (c : Comparable v s t) (less : countOf v s ≤ countOf v t) (same : SameTo v s t (countOf v s)) where
+  first-fits : (j : ℕ) → j ≤ countOf v s → place v j ≤ length s
+  first-fits j h = place-fits v s j (ordered v s (c .first-sound) .long) (le-trans h (count-le v s))
+
+  second-fits : (j : ℕ) → j ≤ countOf v s → place v j ≤ length t
+  second-fits j h = place-fits v t j (ordered v t (c .second-sound) .long) (le-trans (le-trans h less) (count-le v t))
+
+  digest : (j : ℕ) → j ≤ countOf v s → tOf H v t j ≡ tOf H v s j
+  digest zero h = t-start H v t 0 refl ∙ ap (λ (log : ℕ). H (startMsg v log)) (sym (c .one-log)) ∙ sym (t-start H v s 0 refl)
+  digest (suc r) h = same-t H v s t (suc r) (omega arith) (first-fits (suc r) h) (second-fits (suc r) h) (same (suc r) (omega arith) h)
+
+  agree : Agree H v s t
+  agree = record {
+    first-sound = c .first-sound;
+    second-sound = c .second-sound;
+    log = sym (c .one-log);
+    digest = digest;
+    body = λ j g h. same-body H v s t j g (first-fits j h) (second-fits j h) (same j g h);
+  }
+
+  level : (j : ℕ) → j ≤ countOf v s → Level v s t j
+  level j h = inl (h, le-trans h less)
+
+  start-gives : GiveTheSame H v s t (countOf v s)
+  start-gives = record {
+    digests = λ j h. digest-alike H v s t agree j (level j h);
+    held = λ j h. held-alike H v s t agree j (level j h);
+    memberships = λ i m out h. membership-alike H v s t agree i m out (level m h);
+    advancements = λ i m out h. advancement-alike H v s t agree i m out (level m h);
+  }
+
+-- ---- the call
+
+module _ (H : Bytes → Bytes) (v : Version) (s t : Bytes) where
+  turned : (n : ℕ) → GiveTheSame H v t s n → GiveTheSame H v s t n
+  turned n g = record {
+    digests = λ j h. sym (g .digests j h);
+    held = λ j h. sym (g .held j h);
+    memberships = λ i m out h. sym (g .memberships i m out h);
+    advancements = λ i m out h. sym (g .advancements i m out h);
+  }
+
+  -- EQUAL, OR ONE THE START OF THE OTHER: up to the lower count they give the same.
+  pub agreeing-gives : (f : Finding) → Agreeing f → compareCall v s t ≡ found f → GiveTheSame H v s t (common v s t)
+  agreeing-gives f a q = go f a (found-shows v s t f q .0) (found-shows v s t f q .1)
+    where
+      other : Comparable v s t → Comparable v t s
+      other c = record { first-sound = c .second-sound; second-sound = c .first-sound; one-log = sym (c .one-log) }
+
+      go : (f : Finding) → Agreeing f → Comparable v s t → Shows v s t f → GiveTheSame H v s t (common v s t)
+      go equal a c e = rw (min-eq-left {n = countOf v s} {m = countOf v t} (omega (arith, e .0))) (start-gives H v s t c (omega (arith, e .0)) (e .1))
+      go firstShorter a c e = rw (min-eq-left {n = countOf v s} {m = countOf v t} (omega (arith, e .0))) (start-gives H v s t c (omega (arith, e .0)) (e .1))
+      go secondShorter a c e =
+          rw (min-eq-right {n = countOf v t} {m = countOf v s} (omega (arith, e .0)))
+          (turned (countOf v t) (start-gives H v t s (other c) (omega (arith, e .0)) (λ j g h. sym (e .1 j g h))))
+      go (differ n b) a c e = absurd a

@@ -1,0 +1,2 @@
+pub mod Made  -- the store and the lines, by the program `make`
+pub mod Agree  -- the definitions give the same
