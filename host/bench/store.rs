@@ -1,5 +1,6 @@
 //! Times counting and appending on a store of a million records beside a plain Rust pass over the same
-//! state bytes. One of full size would have 279 GB (`host/limit`).
+//! state bytes, and comparing it with a copy beside a plain Rust comparison of the two. One of full
+//! size would have 279 GB (`host/limit`).
 //!
 //! The append is stopped before its last store, so that it does the same work each time: it counts,
 //! it hashes the entry and the element, and it writes 64 bytes. The store of 68 megabytes does not
@@ -30,6 +31,17 @@ fn plain_count(store: &[u8]) -> Option<u64> {
     Some(count)
 }
 
+/// Where the closed records of two stores of one log first differ, byte by byte, each store counted
+/// first; nothing if they are equal.
+fn plain_difference(first: &[u8], second: &[u8]) -> Option<(usize, usize)> {
+    let counts = (plain_count(first), plain_count(second));
+    let count =
+        counts.0.filter(|_| counts.0 == counts.1).expect("two stores of one count") as usize;
+    let records = |store| <[u8]>::chunks_exact(store, RECORD).take(count);
+    let mut pairs = records(&first[HEADER..]).zip(records(&second[HEADER..])).enumerate();
+    pairs.find_map(|(j, (x, y))| (0..STATE).find(|&b| x[b] != y[b]).map(|b| (j + 1, b)))
+}
+
 fn print(call: &str, [ours, plain]: [Timing; 2]) {
     let (ratio, ours, plain) = (plain.ratio, ours.time / 1e6, plain.time / 1e6);
     println!("{:>8} {:>12.2} {:>12.2} {:>7.2}", call, ours, plain, ratio);
@@ -48,4 +60,8 @@ fn main() {
         assert_eq!(answer.beside[0], before);
     };
     print("append", timing::side_by_side(ROUNDS, 1, [way(append), way(plain)]));
+    let copy = store.borrow().clone();
+    let compare = || assert_eq!(lotlog::compare(&store.borrow(), &copy).beside, [0; 3]);
+    let plain = || assert_eq!(plain_difference(&store.borrow(), &copy), None);
+    print("compare", timing::side_by_side(ROUNDS, 1, [way(compare), way(plain)]));
 }

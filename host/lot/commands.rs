@@ -37,7 +37,7 @@ pub const GROUPS: [(&str, &str); 4] = [
     ("The van and the office", "seal"),
 ];
 
-pub const COMMANDS: [Command; 23] = [
+pub const COMMANDS: [Command; 24] = [
     Command {
         name: "init",
         words: "STORE --log N --room R",
@@ -113,6 +113,21 @@ pub const COMMANDS: [Command; 23] = [
                status 1. What an audit can't see, a log cut back to an earlier length above all, \
                only what was kept elsewhere shows: keep what lot digest prints.",
         run: house::audit,
+    },
+    Command {
+        name: "compare-stores",
+        words: "STORE1 STORE2",
+        least: 2,
+        most: 2,
+        choices: &[],
+        summary: "whether two copies of a log agree, and if not, from which byte on",
+        text: "Compares the elements, not the room behind them. Prints equal; or first shorter or \
+               second shorter, where that one is the start of the other; or differ, the first \
+               element that differs and the first of its 64 bytes that does, counted from 0: below \
+               32 it is in d, else in T; or refused and the number; or unread. The status is 0 if \
+               they are equal and 1 if not, 1 too for two logs (26), 3 for damage (1) and 2 for \
+               unread; the meaning of a refusal is told on standard error.",
+        run: house::compare_stores,
     },
     Command {
         name: "prove",

@@ -1,12 +1,14 @@
 //! The house's commands: a store in a file, and what it gives to the practices.
 
+use std::ffi::OsStr;
+
 use lotlog::file::Writer;
 use lotlog::{Answer, Digest, ELEMENTS_MOST, HEADER_BYTES, PROOF_MOST, RECORD_BYTES};
 
-use crate::files::{read_store, Output};
-use crate::said::{Call, Outcome, Said, Stop, Trouble, FALSE};
+use crate::files::{must_be_one, read_store, Output};
+use crate::said::{Call, Outcome, Said, Stop, Trouble, FALSE, UNABLE};
 use crate::teller::Teller;
-use crate::text::hex;
+use crate::text::{hex, shown};
 use crate::words::Words;
 
 /// The most bytes of an entry.
@@ -98,6 +100,46 @@ pub fn audit(words: &Words, _: &Teller) -> Outcome {
     }
     let count = done(answer, Call::Checks)?;
     Ok(Said::good(format!("sound {}", count)).with("answer", "sound").with("count", count))
+}
+
+/// A refusal of two stores in the words of `lot_compare`; its meaning goes beside it, and which of
+/// them are damaged.
+fn not_compared(answer: Answer, names: &[&OsStr], stores: &[Vec<u8>]) -> Said {
+    let mut said = Said::refused(answer, Call::Checks);
+    let meaning = std::mem::replace(&mut said.line, format!("refused {}", answer.number));
+    let damaged = names.iter().zip(stores).filter(|(_, store)| lotlog::count(store).number == 1);
+    let damaged: Vec<String> = damaged.map(|(name, _)| shown(name)).collect();
+    match &damaged[..] {
+        [] => said.aside(meaning),
+        names => said.aside(format!("{}: {}", meaning, names.join(", "))),
+    }
+}
+
+/// Whether two stores agree, in the line of the program `lot_compare`, whatever their size.
+pub fn compare_stores(words: &Words, teller: &Teller) -> Outcome {
+    let names = words.names_from(0);
+    must_be_one(&names)?;
+    let read = |name: &OsStr| {
+        read_store(name).map_err(|trouble| {
+            let unread = Said::good("unread").status(UNABLE).with("answer", "unread");
+            teller.tell(&unread).err().unwrap_or(trouble)
+        })
+    };
+    let stores = [read(names[0])?, read(names[1])?];
+    let answer = lotlog::compare(&stores[0], &stores[1]);
+    let [kind, element, byte] = answer.beside;
+    let differs = |line: &str| Said::good(line).status(FALSE).with("answer", line);
+    Ok(match (answer.number, kind) {
+        (0, 0) => Said::good("equal").with("answer", "equal"),
+        (0, 1) => differs("first shorter"),
+        (0, 2) => differs("second shorter"),
+        (0, _) => Said::good(format!("differ {} {}", element, byte))
+            .status(FALSE)
+            .with("answer", "differ")
+            .with("element", element)
+            .with("byte", byte),
+        _ => not_compared(answer, &names, &stores),
+    })
 }
 
 /// What the two commands that make proofs have in common: a store, a number, a length and a place.

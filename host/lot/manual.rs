@@ -158,7 +158,7 @@ fn page() -> Vec<Part> {
     parts.extend(STATUSES.iter().map(|(status, text)| Item(status.to_string(), text.to_string())));
     parts.push(Section("REFUSALS"));
     parts.push(Text(REFUSALS.to_string()));
-    parts.extend((1..=25).map(|number| Item(number.to_string(), meaning(number).to_string())));
+    parts.extend((1..=26).map(|number| Item(number.to_string(), meaning(number).to_string())));
     parts.extend([Section("EXAMPLES"), Lines(EXAMPLES), Section("FILES")]);
     parts.extend(FILES.iter().map(|(name, text)| Item(name.to_string(), text.to_string())));
     parts

@@ -35,6 +35,9 @@ unread = 117 ∷ 110 ∷ 114 ∷ 101 ∷ 97 ∷ 100 ∷ []
 abbrev pub fileMost : ℕ
 fileMost = 32768
 
--- Of two files, s and t as far as they were read; `read` is whether there are two names and no read failed.
+-- Of two files, s and t as far as they were read; `read` is whether there are two names and no read failed. Without its line feed:
+unfoldable pub textOf : Version → Bool → Bytes → Bytes → Bytes
+textOf v read s t = cond (read && (leb (length s) fileMost && leb (length t) fileMost)) (words (compareCall v s t)) unread
+
 unfoldable pub lineOf : Version → Bool → Bytes → Bytes → Bytes
-lineOf v read s t = cond (read && (leb (length s) fileMost && leb (length t) fileMost)) (words (compareCall v s t)) unread ++ (10 ∷ [])
+lineOf v read s t = textOf v read s t ++ (10 ∷ [])

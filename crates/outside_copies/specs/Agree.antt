@@ -9,7 +9,7 @@ use Rattle.rules.specs.Numbers.{v1}
 use Rattle.rules.specs.Store.{firstUnclosed, allOpen, damaged, logOf}
 use Rattle.copies.specs.Comparing.{firstNot, finding}
 use Rattle.copies.specs.Calls.{compareCall}
-use Rattle.copies.specs.Line.{decimalIn, words, lineOf}
+use Rattle.copies.specs.Line.{decimalIn, words, textOf, lineOf}
 use Rattle.outside_copies.specs.Made as made
 
 abbrev line : Bytes → Bytes → Bytes
@@ -47,7 +47,7 @@ computed =
 
 -- THE DEFINITIONS GIVE THE LINES THAT WERE MADE OUTSIDE
 pub lines-agree : same computed made.lines ≡ true
-unfolding computed made.kept made.lines numberFrom logOf firstUnclosed allOpen damaged firstNot finding compareCall decimalIn words lineOf
+unfolding computed made.kept made.lines numberFrom logOf firstUnclosed allOpen damaged firstNot finding compareCall decimalIn words textOf lineOf
 lines-agree = refl
 
 -- what could not be read, and what has a byte too many: `unread`
@@ -55,10 +55,10 @@ abbrev unreadLine : Bytes
 unreadLine = 117 ∷ 110 ∷ 114 ∷ 101 ∷ 97 ∷ 100 ∷ 10 ∷ []
 
 pub unread-said : same (lineOf v1 false made.kept made.kept ++ line made.kept (replicate 32769 0) ++ line (replicate 32769 0) made.kept) (unreadLine ++ unreadLine ++ unreadLine) ≡ true
-unfolding made.kept lineOf
+unfolding made.kept textOf lineOf
 unread-said = refl
 
 -- `refused 1`, for 32,768 bytes of zeros
 pub longest-read : same (line made.kept (replicate 32768 0)) (114 ∷ 101 ∷ 102 ∷ 117 ∷ 115 ∷ 101 ∷ 100 ∷ 32 ∷ 49 ∷ 10 ∷ []) ≡ true
-unfolding made.kept numberFrom logOf firstUnclosed allOpen damaged firstNot finding compareCall decimalIn words lineOf
+unfolding made.kept numberFrom logOf firstUnclosed allOpen damaged firstNot finding compareCall decimalIn words textOf lineOf
 longest-read = refl
