@@ -9,13 +9,15 @@ use Rattle.lists.specs.Bytes.{Bytes}
 use Rattle.hash.specs.Hash.{hashOf}
 use Rattle.rules.specs.Numbers.{v1}
 use Rattle.rules.specs.Store.{damaged, logOf, countOf}
+use Rattle.rules.specs.Calls.{gives, auditCall}
 use Rattle.rules.specs.OneOutcome.{One, one-outcome}
 use Rattle.path.specs.declared.Position.{Position}
-use Rattle.copies.specs.Comparing.{common, Finding, equal, firstShorter, secondShorter, differ}
+use Rattle.copies.specs.Comparing.{common, equal, firstShorter, secondShorter, differ}
 use Rattle.copies.specs.Calls.{Outcome, found, refused, compareCall}
 use Rattle.copies.specs.Meaning.{SameTo, Differs, Comparable, found-shows, shows-found, damaged-refused, refused-damaged, other-refused, refused-other}
 use Rattle.copies.specs.Swapped as swapping
 use Rattle.copies.specs.Shared.{GiveTheSame, agreeing-gives}
+use Rattle.copies.specs.Sound as sound
 use Rattle.compare.specs.Told.{comparedTold}
 use Rattle.compare.specs.declared.Compared.{Compared}
 use Rattle.compare.specs.declared.Compared.the-variants.{Equal, FirstShorter, SecondShorter, Differ, Damaged, OtherLog}
@@ -120,3 +122,7 @@ first-shorter-gives s t q = agreeing-gives hashOf v1 s t firstShorter tt (sym q)
 
 pub second-shorter-gives : (s t : Bytes) → Answers SecondShorter s t → GiveTheSame hashOf v1 s t (common v1 s t)
 second-shorter-gives s t q = agreeing-gives hashOf v1 s t secondShorter tt (sym q)
+
+-- BOTH SOUND, AND YET DIFFERENT: where both stores pass the audit, the first byte that differs is in d, so two different lots were entered there.
+pub sound-differ : (s t : Bytes) (p q : ℕ) (n : Position) (b : ℕ) → auditCall hashOf v1 s ≡ gives p → auditCall hashOf v1 t ≡ gives q → Answers (Differ n b) s t → b < 32
+sound-differ s t p q n b a a' e = sound.sound-differ hashOf v1 s t p q (n .0) b a a' (sym e)

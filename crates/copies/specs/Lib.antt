@@ -9,3 +9,4 @@ pub mod Answers  -- the outcome of the call, test by test
 pub mod Meaning  -- WHAT EACH ANSWER SAYS, EXACTLY: equal, the start of the other, and that N and B are the least
 pub mod Swapped  -- THE OTHER WAY ROUND
 pub mod Shared  -- WHAT TWO STORES THAT AGREE GIVE: every digest, proof and held state up to the lower count
+pub mod Sound  -- TWO STORES THAT BOTH PASS THE AUDIT DIFFER FIRST IN d

@@ -1,26 +1,26 @@
 -- WHAT EACH ANSWER SAYS, EXACTLY. `Shows` has for each answer what it says of the two stores; an answer is given if that holds (`shows-found`), and only then
 -- (`found-shows`). So "equal" is given exactly if the counts and the closed records, without their state bytes, are equal; "shorter" exactly if one store is
 -- a proper beginning of the other; N and B are the least; and 1 and 26 are given exactly for damage and, then, for other log numbers.
-use mathlib.Core.Path.{_≡_, refl, sym, ap, ap₂, subst, _∙_}
+use mathlib.Core.Path.{_≡_, refl, sym, ap, subst, _∙_}
 use mathlib.Core.Logic.{_≢_, _⊎_, inl, inr}
-use mathlib.Core.Bool.{Bool, true, false, cond, _||_, true≢false}
+use mathlib.Core.Bool.{Bool, true, false, cond}
 use Prim.Native.Nat.{ℕ, zero, suc, _+_, _≤_, _<_, min, zero-le}
-use native.Mathlib.Nat.{le-refl, le-trans, min-le-left, min-le-right, min-eq-left, min-eq-right}
+use native.Mathlib.Nat.{le-trans, min-le-left, min-le-right, min-eq-left, min-eq-right}
 use native.Mathlib.Decide.{decLt, decLe}
 use native.Mathlib.Omega.{arith}
 use lib.Dec.{leb, ltb, eqb}
 use lib.ListN.{length, getD}
 use borrow.Author.Tests.{lt-ltb, le-ltb, ltb-false, ltb-true, le-leb, lt-leb, leb-true, leb-false, eq-eqb, ne-eqb, eqb-true, eqb-false}
 use Rattle.lists.specs.Bytes.{Bytes, same}
-use Rattle.lists.specs.Same.{same-true, same-false, same-eq, same-not}
+use Rattle.lists.specs.Same.{same-true, same-false, same-eq}
 use Rattle.rules.specs.Numbers.{Version}
 use Rattle.rules.specs.Refusals.{storeDamaged}
-use Rattle.rules.specs.Store.{headerSize, place, damaged, logOf, countOf, fieldsSize, fieldsOf}
+use Rattle.rules.specs.Store.{place, damaged, logOf, countOf, fieldsSize, fieldsOf}
 use Rattle.rules.specs.Places.{place-fits, count-le}
 use Rattle.rules.specs.Damage.{ordered}
 use Rattle.rules.specs.Stored.{fields-length}
 use Rattle.copies.specs.Refusals.{otherLog}
-use Rattle.copies.specs.Comparing.{firstNot, sameElement, sameByte, common, elementAt, byteAt, Finding, equal, firstShorter, secondShorter, differ, finding}
+use Rattle.copies.specs.Comparing.{sameElement, sameByte, common, elementAt, byteAt, Finding, equal, firstShorter, secondShorter, differ, finding}
 use Rattle.copies.specs.Calls.{Outcome, found, refused, compareCall}
 use Rattle.copies.specs.First.{First, first-is, one-first, byte-same, byte-other, string-other, string-same}
 use Rattle.copies.specs.Answers.{compare-is, finding-is}

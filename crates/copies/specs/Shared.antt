@@ -3,8 +3,7 @@
 use mathlib.Core.Path.{_≡_, refl, sym, ap, _∙_}
 use mathlib.Core.Logic.{inl}
 use Prim.Native.Nat.{ℕ, zero, suc, _+_, _-_, _≤_, _<_}
-use native.Mathlib.Nat.{le-trans, min-le-left, min-le-right, min-eq-left, min-eq-right}
-use native.Mathlib.Decide.{decLe}
+use native.Mathlib.Nat.{le-refl, le-trans, min-eq-left, min-eq-right}
 use native.Mathlib.Omega.{arith}
 use lib.ListN.{length, getD, take, drop}
 use lib.Seq.{getD-take, getD-drop}
@@ -12,7 +11,7 @@ use Rattle.lists.specs.Bytes.{Bytes}
 use Rattle.lists.specs.Pasted.{part-same}
 use Rattle.rules.specs.Numbers.{Version}
 use Rattle.rules.specs.Messages.{startMsg}
-use Rattle.rules.specs.Store.{place, damaged, logOf, countOf, bodyOf, fieldsSize, fieldsOf, tOf}
+use Rattle.rules.specs.Store.{place, countOf, bodyOf, fieldsSize, fieldsOf, tOf}
 use Rattle.rules.specs.Places.{place-below, place-fits, count-le}
 use Rattle.rules.specs.Damage.{ordered}
 use Rattle.rules.specs.Stored.{t-start, t-at}
@@ -29,6 +28,10 @@ Agreeing firstShorter = Unit {0}
 Agreeing secondShorter = Unit {0}
 Agreeing (differ n b) = ⊥
 
+-- where a byte of an element stands
+pub field-byte : (v : Version) (s : Bytes) (j i : ℕ) → i < fieldsSize v → getD (fieldsOf v s j) i 0 ≡ getD s (place v (j - 1) + i) 0
+field-byte v s j i h = getD-take (fieldsSize v) (drop (place v (j - 1)) s) i 0 h ∙ getD-drop (place v (j - 1)) s i 0
+
 -- up to n the two stores give the same
 pub record GiveTheSame (H : Bytes → Bytes) (v : Version) (s t : Bytes) (n : ℕ) : Type 0 where
   pub digests : (j : ℕ) → j ≤ n → digestCall H v t j ≡ digestCall H v s j
@@ -36,38 +39,34 @@ pub record GiveTheSame (H : Bytes → Bytes) (v : Version) (s t : Bytes) (n : �
   pub memberships : (i m : ℕ) (out : Bytes) → m ≤ n → buildMembershipCall H v t i m out ≡ buildMembershipCall H v s i m out
   pub advancements : (i m : ℕ) (out : Bytes) → m ≤ n → buildAdvancementCall H v t i m out ≡ buildAdvancementCall H v s i m out
 
--- ---- an element that is the same has the same body and the same T
+-- ---- an element whose first k bytes are the same has the same body and, with all of them, the same T
 
 module _ (H : Bytes → Bytes) (v : Version) (s t : Bytes) (j : ℕ) (from-one : 1 ≤ j) (first-fits : place v j ≤ length s) (second-fits : place v j ≤ length t)
-    (e : fieldsOf v s j ≡ fieldsOf v t j) where
+    (k : ℕ) (most : k ≤ fieldsSize v) (bytes : (i : ℕ) → i < k → getD (fieldsOf v s j) i 0 ≡ getD (fieldsOf v t j) i 0) where
   abbrev at : ℕ
   at = place v (j - 1)
 
   room : at + fieldsSize v ≤ place v j
   room = let p = place-below v (j - 1) j (omega arith) in omega arith
 
-  byte : (i : ℕ) → i < fieldsSize v → getD t (at + i) 0 ≡ getD s (at + i) 0
-  byte i h =
-      sym (getD-take (fieldsSize v) (drop at t) i 0 h ∙ getD-drop at t i 0)
-      ∙ ap (λ (x : Bytes). getD x i 0) (sym e)
-      ∙ getD-take (fieldsSize v) (drop at s) i 0 h
-      ∙ getD-drop at s i 0
+  byte : (i : ℕ) → i < k → getD t (at + i) 0 ≡ getD s (at + i) 0
+  byte i h = sym (field-byte v t j i (omega arith)) ∙ sym (bytes i h) ∙ field-byte v s j i (omega arith)
 
-  part : (a k : ℕ) → a + k ≤ fieldsSize v → take k (drop (at + a) t) ≡ take k (drop (at + a) s)
-  part a k h = part-same t s (at + a) (at + a) k (omega (arith, room)) (omega (arith, room)) (λ i g. at-byte i g)
+  part : (a n : ℕ) → a + n ≤ k → take n (drop (at + a) t) ≡ take n (drop (at + a) s)
+  part a n h = part-same t s (at + a) (at + a) n (omega (arith, room)) (omega (arith, room)) at-byte
     where
-      at-byte : (i : ℕ) → i < k → getD t (at + a + i) 0 ≡ getD s (at + a + i) 0
+      at-byte : (i : ℕ) → i < n → getD t (at + a + i) 0 ≡ getD s (at + a + i) 0
       at-byte i g =
           let q : at + a + i ≡ at + (a + i) = omega arith in
-          ap (λ (n : ℕ). getD t n 0) q ∙ byte (a + i) (omega arith) ∙ ap (λ (n : ℕ). getD s n 0) (sym q)
+          ap (λ (x : ℕ). getD t x 0) q ∙ byte (a + i) (omega arith) ∙ ap (λ (x : ℕ). getD s x 0) (sym q)
 
-  same-body : bodyOf v t j ≡ bodyOf v s j
-  same-body =
+  pub same-body : v .before + 32 ≤ k → bodyOf v t j ≡ bodyOf v s j
+  same-body h =
       let q : at + 0 ≡ at = omega arith in
-      ap (λ (n : ℕ). take (v .before + 32) (drop n t)) (sym q) ∙ part 0 (v .before + 32) (omega arith) ∙ ap (λ (n : ℕ). take (v .before + 32) (drop n s)) q
+      ap (λ (x : ℕ). take (v .before + 32) (drop x t)) (sym q) ∙ part 0 (v .before + 32) (omega arith) ∙ ap (λ (x : ℕ). take (v .before + 32) (drop x s)) q
 
-  same-t : tOf H v t j ≡ tOf H v s j
-  same-t = t-at H v t j from-one ∙ part (v .before + 32) 32 (omega arith) ∙ sym (t-at H v s j from-one)
+  pub same-t : fieldsSize v ≤ k → tOf H v t j ≡ tOf H v s j
+  same-t h = t-at H v t j from-one ∙ part (v .before + 32) 32 (omega arith) ∙ sym (t-at H v s j from-one)
 
 -- ---- the first store is the start of the other
 
@@ -80,7 +79,9 @@ module _ (H : Bytes → Bytes) (v : Version) (s t : Bytes) (c : Comparable v s t
 
   digest : (j : ℕ) → j ≤ countOf v s → tOf H v t j ≡ tOf H v s j
   digest zero h = t-start H v t 0 refl ∙ ap (λ (log : ℕ). H (startMsg v log)) (sym (c .one-log)) ∙ sym (t-start H v s 0 refl)
-  digest (suc r) h = same-t H v s t (suc r) (omega arith) (first-fits (suc r) h) (second-fits (suc r) h) (same (suc r) (omega arith) h)
+  digest (suc r) h =
+      same-t H v s t (suc r) (omega arith) (first-fits (suc r) h) (second-fits (suc r) h) (fieldsSize v) (le-refl (fieldsSize v))
+      (λ i g. ap (λ (x : Bytes). getD x i 0) (same (suc r) (omega arith) h)) (le-refl (fieldsSize v))
 
   agree : Agree H v s t
   agree = record {
@@ -88,7 +89,8 @@ module _ (H : Bytes → Bytes) (v : Version) (s t : Bytes) (c : Comparable v s t
     second-sound = c .second-sound;
     log = sym (c .one-log);
     digest = digest;
-    body = λ j g h. same-body H v s t j g (first-fits j h) (second-fits j h) (same j g h);
+    body = λ j g h.
+        same-body H v s t j g (first-fits j h) (second-fits j h) (fieldsSize v) (le-refl (fieldsSize v)) (λ i l. ap (λ (x : Bytes). getD x i 0) (same j g h)) (omega arith);
   }
 
   level : (j : ℕ) → j ≤ countOf v s → Level v s t j

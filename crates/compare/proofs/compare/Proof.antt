@@ -11,7 +11,6 @@ use borrow.Author.Tests.{lt-ltb, le-ltb, le-leb, lt-leb, eq-eqb, ne-eqb}
 use denote.Ref.{now}
 use Rattle.lists.specs.Bytes.{Bytes}
 use Rattle.rules.specs.Numbers.{v1}
-use Rattle.rules.specs.Refusals.{storeDamaged}
 use Rattle.rules.specs.Store.{logOf, countOf}
 use Rattle.copies.specs.Comparing as rule
 use Rattle.copies.specs.Comparing.{Finding, equal, firstShorter, secondShorter, differ, firstNot, sameElement, elementAt, byteAt, finding}
