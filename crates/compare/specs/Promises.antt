@@ -14,7 +14,8 @@ use Rattle.rules.specs.OneOutcome.{One, one-outcome}
 use Rattle.path.specs.declared.Position.{Position}
 use Rattle.copies.specs.Comparing.{common, equal, firstShorter, secondShorter, differ}
 use Rattle.copies.specs.Calls.{Outcome, found, refused, compareCall}
-use Rattle.copies.specs.Meaning.{SameTo, Differs, Comparable, found-shows, shows-found, damaged-refused, refused-damaged, other-refused, refused-other}
+use Rattle.copies.specs.Meaning.{SameTo, Differs, Comparable}
+use Rattle.copies.specs.Exactly.{found-shows, shows-found, damaged-refused, refused-damaged, other-refused, refused-other}
 use Rattle.copies.specs.Swapped as swapping
 use Rattle.copies.specs.Shared.{GiveTheSame, agreeing-gives}
 use Rattle.copies.specs.Sound as sound

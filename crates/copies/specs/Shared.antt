@@ -19,7 +19,8 @@ use Rattle.rules.specs.Calls.{digestCall, heldCall, buildMembershipCall, buildA
 use Rattle.rules.specs.Alike.{Agree, Level, digest-alike, held-alike, membership-alike, advancement-alike}
 use Rattle.copies.specs.Comparing.{common, Finding, equal, firstShorter, secondShorter, differ}
 use Rattle.copies.specs.Calls.{found, compareCall}
-use Rattle.copies.specs.Meaning.{SameTo, Shows, Comparable, found-shows}
+use Rattle.copies.specs.Meaning.{SameTo, Shows, Comparable}
+use Rattle.copies.specs.Exactly.{found-shows}
 
 -- the answer is "equal", or that one is the start of the other
 abbrev pub Agreeing : Finding → Type 0

@@ -23,7 +23,8 @@ use Rattle.rules.specs.Calls.{gives, auditCall}
 use Rattle.rules.specs.Passed.{passed, none-wrong}
 use Rattle.copies.specs.Comparing.{differ}
 use Rattle.copies.specs.Calls.{found, compareCall}
-use Rattle.copies.specs.Meaning.{Comparable, Differs, found-shows}
+use Rattle.copies.specs.Meaning.{Comparable, Differs}
+use Rattle.copies.specs.Exactly.{found-shows}
 use Rattle.copies.specs.Shared.{field-byte, same-body, same-t}
 
 module _ (H : Bytes → Bytes) (v : Version) where

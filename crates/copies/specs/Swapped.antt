@@ -10,7 +10,8 @@ use Rattle.rules.specs.Store.{damaged, logOf}
 use Rattle.copies.specs.Comparing.{Finding, equal, firstShorter, secondShorter, differ, finding}
 use Rattle.copies.specs.Calls.{Outcome, found, refused, compareCall}
 use Rattle.copies.specs.Answers.{compare-is}
-use Rattle.copies.specs.Meaning.{Shows, shown, only, shows-found}
+use Rattle.copies.specs.Meaning.{Shows, shown, only}
+use Rattle.copies.specs.Exactly.{shows-found}
 
 -- which store is the shorter changes its place; what differs is the same
 abbrev pub swapped : Finding → Finding
