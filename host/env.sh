@@ -10,7 +10,7 @@ build=build
 # The crate whose calls the host programs link, its archive, and the programs that are tested from here.
 library=lotlog
 archive=$build/lib$library.a
-programs=(lot_audit)
+programs=(lot_audit lot_compare)
 
 # Flags of the Rust compiler, `cc` for C, and `tools` before the names of those that read and change archives.
 rust_flags=(--edition 2021 -C opt-level=3 -C target-cpu=x86-64 -L "$build")

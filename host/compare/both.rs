@@ -6,10 +6,11 @@
 
 use std::fmt::Debug;
 use std::marker::PhantomData;
+use std::ops::Range;
 
 use lotlog::{Answer, Digest, Held, Side, HELD_BYTES};
 
-use crate::calls::{AdvanceCalls, HashCalls, MemberCalls, SavedCalls};
+use crate::calls::{AdvanceCalls, CopyCalls, HashCalls, MemberCalls, SavedCalls};
 use crate::calls::{SealCalls, StoreCalls, TrieCalls};
 use crate::second_calls::Second;
 
@@ -158,6 +159,39 @@ impl<C: StoreCalls, S: StoreCalls> BothStore for Both<C, S> {
     fn audit(&mut self, store: &[u8]) -> Answer {
         let wanted = S::audit(store);
         self.agree(C::audit(store), wanted, || format!("audit of {} bytes", store.len()));
+        wanted
+    }
+}
+
+/// Two stores that should agree, on both sides.
+pub trait BothCopies: Counted {
+    fn compare(&mut self, first: &[u8], second: &[u8]) -> Answer;
+
+    /// Compares two parts of one piece of memory, which may overlap or be the same.
+    fn compare_parts(&mut self, memory: &[u8], parts: [Range<usize>; 2]) -> Answer;
+}
+
+impl<C: CopyCalls, S: CopyCalls> BothCopies for Both<C, S> {
+    fn compare(&mut self, first: &[u8], second: &[u8]) -> Answer {
+        let (mut our_first, mut our_second) = (Lent::of(first), Lent::of(second));
+        let answer = C::compare(our_first.lend(), our_second.lend());
+        let wanted = S::compare(first, second);
+        let call = || format!("comparison of stores of {} and {} bytes", first.len(), second.len());
+        self.agree(answer, wanted, call);
+        our_first.must_be(first, call);
+        our_second.must_be(second, call);
+        wanted
+    }
+
+    fn compare_parts(&mut self, memory: &[u8], parts: [Range<usize>; 2]) -> Answer {
+        let mut ours = Lent::of(memory);
+        let lent = &*ours.lend();
+        let [first, second] = parts.clone();
+        let answer = C::compare(&lent[first.clone()], &lent[second.clone()]);
+        let wanted = S::compare(&memory[first], &memory[second]);
+        let call = || format!("comparison of the parts {:?} of one store", parts);
+        self.agree(answer, wanted, call);
+        ours.must_be(memory, call);
         wanted
     }
 }

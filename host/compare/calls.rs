@@ -16,6 +16,11 @@ pub trait StoreCalls {
     fn audit(store: &[u8]) -> Answer;
 }
 
+/// Two stores that should agree.
+pub trait CopyCalls {
+    fn compare(first: &[u8], second: &[u8]) -> Answer;
+}
+
 /// Membership: building, checking, disputes.
 pub trait MemberCalls {
     fn build_membership(store: &[u8], i: u64, n: u64, out: &mut [u8]) -> Answer;

@@ -3,11 +3,12 @@
 //! Both get the same arguments. What is compared is all that a caller can see: the number of
 //! documents 01 and 02, the numbers beside it, and every byte of lent memory after the call, with
 //! guard bytes around it. The calls come in groups (`hash`, `store`, `member`, `advance`, `saved`,
-//! `ends`, `trie`, `sealed`) and all together (`whole`), and a group is a function over any
+//! `ends`, `trie`, `sealed`, `copies`) and all together (`whole`), and a group is a function over any
 //! implementation of its calls. So the second program can be held to itself, and to faulty copies of
 //! itself, each of which a group must notice (`faulty`). Where a proof broke is also told beforehand,
-//! without the second program (`places`), and so is what comes of damage to a van's log (`sealed`).
-//! Lengths that no store has are tried on logs that are made up (`made`).
+//! without the second program (`places`), and so is what comes of damage to a van's log (`sealed`) and
+//! where two stores differ (`copies`). Lengths that no store has are tried on logs that are made up
+//! (`made`).
 //!
 //! A difference panics with the call and its arguments.
 
@@ -17,6 +18,7 @@
 pub mod advance;
 pub mod both;
 pub mod calls;
+pub mod copies;
 pub mod damage;
 pub mod ends;
 pub mod faulty;

@@ -2,6 +2,7 @@
 //!
 //! Among the faults are the slips that document 01 has seen elsewhere.
 
+mod copies;
 mod ends;
 mod sealed;
 
@@ -16,7 +17,7 @@ use second::store::{HEADER, OPEN, RECORD, STATE};
 use second::trie::climbed;
 use second::{message, path, ENTRY_MOST, LIMIT};
 
-use crate::calls::{AdvanceCalls, HashCalls, MemberCalls, SavedCalls};
+use crate::calls::{AdvanceCalls, CopyCalls, HashCalls, MemberCalls, SavedCalls};
 use crate::calls::{SealCalls, StoreCalls, TrieCalls};
 use crate::second_calls::{held_bytes, held_of_bytes, Second};
 
@@ -236,6 +237,64 @@ pub const ROW_30_NOT_COMPARED: usize = 194;
 pub const CARRIES_TO_ROW_20: usize = 195;
 pub const FILE_OF_TWENTY_ROWS: usize = 196;
 pub const KEEPS_THE_OLD_CAPACITY: usize = 197;
+pub const LENGTHS_BEFORE_BYTES: usize = 198;
+pub const ONLY_D_COMPARED: usize = 199;
+pub const ONLY_T_COMPARED: usize = 200;
+pub const BYTE_0_NOT_COMPARED: usize = 201;
+pub const BYTE_63_NOT_COMPARED: usize = 202;
+pub const HIGH_BIT_NOT_COMPARED: usize = 203;
+pub const GREATER_BYTES_ALONE: usize = 204;
+pub const BYTE_FROM_1: usize = 205;
+pub const BYTE_FROM_T: usize = 206;
+pub const BYTE_OF_THE_STORE: usize = 207;
+pub const ELEMENT_FROM_0: usize = 208;
+pub const ELEMENT_AND_BYTE_SWAPPED: usize = 209;
+pub const DIFFER_WITHOUT_ITS_3: usize = 210;
+pub const LAST_ELEMENT_THAT_DIFFERS: usize = 211;
+pub const LAST_BYTE_THAT_DIFFERS: usize = 212;
+pub const LAST_OF_ALL_DIFFERENCES: usize = 213;
+pub const LOWEST_BYTE_OF_ANY_ELEMENT: usize = 214;
+pub const LAST_COMMON_ELEMENT_LEFT_OUT: usize = 215;
+pub const FIRST_ELEMENT_LEFT_OUT: usize = 216;
+pub const FIRST_32_ELEMENTS_ALONE: usize = 217;
+pub const ELEMENT_OF_8_BITS: usize = 218;
+pub const ELEMENT_OF_16_BITS: usize = 219;
+pub const RECORDS_OF_64: usize = 220;
+pub const ALL_RECORDS_COMPARED: usize = 221;
+pub const RECORDS_OF_THE_LONGER_COMPARED: usize = 222;
+pub const ONE_RECORD_MORE_COMPARED: usize = 223;
+pub const CAPACITIES_FOR_LENGTHS: usize = 224;
+pub const BYTES_FOR_LENGTHS: usize = 225;
+pub const BYTES_PAST_THE_CAPACITY_COMPARED: usize = 226;
+pub const SHORTER_SWAPPED: usize = 227;
+pub const ALWAYS_THE_FIRST_SHORTER: usize = 228;
+pub const ALWAYS_THE_SECOND_SHORTER: usize = 229;
+pub const EQUAL_FOR_SHORTER: usize = 230;
+pub const EQUAL_FOR_FIRST_SHORTER: usize = 231;
+pub const EQUAL_FOR_SECOND_SHORTER: usize = 232;
+pub const SHORTER_FOR_EQUAL: usize = 233;
+pub const EMPTY_IS_EQUAL_TO_ALL: usize = 234;
+pub const ELEMENT_BESIDE_SHORTER: usize = 235;
+pub const LOG_NUMBERS_BEFORE_DAMAGE: usize = 236;
+pub const LOG_NUMBERS_BEFORE_STATES: usize = 237;
+pub const LOG_NUMBERS_AFTER_THE_RECORDS: usize = 238;
+pub const LOG_NUMBERS_NOT_COMPARED: usize = 239;
+pub const LOW_HALF_OF_LOG_NUMBERS: usize = 240;
+pub const HIGH_HALF_OF_LOG_NUMBERS: usize = 241;
+pub const FIRST_OF_LOG_NUMBERS_IGNORED: usize = 242;
+pub const LOG_NUMBERS_ARE_DAMAGE: usize = 243;
+pub const DIFFERENCE_BESIDE_26: usize = 244;
+pub const LENGTH_BESIDE_1: usize = 245;
+pub const TAKES_A_DAMAGED_FIRST: usize = 246;
+pub const TAKES_A_DAMAGED_SECOND: usize = 247;
+pub const STATES_OF_FIRST_NOT_READ: usize = 248;
+pub const STATES_OF_SECOND_NOT_READ: usize = 249;
+pub const HEADER_OF_FIRST_NOT_READ: usize = 250;
+pub const HEADER_OF_SECOND_NOT_READ: usize = 251;
+pub const STATES_UP_TO_AN_OPEN_ONE: usize = 252;
+pub const STATES_OF_COMMON_RECORDS_ALONE: usize = 253;
+pub const ONE_SOUND_STORE_IS_ENOUGH: usize = 254;
+pub const COMPARES_32_KIB_AT_MOST: usize = 255;
 
 impl Faulty {
     /// Whether the fault is one of the limit, the levels or the rows.

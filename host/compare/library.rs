@@ -5,7 +5,7 @@
 
 use lotlog::{Answer, Digest, Held, Side};
 
-use crate::calls::{AdvanceCalls, HashCalls, MemberCalls, SavedCalls};
+use crate::calls::{AdvanceCalls, CopyCalls, HashCalls, MemberCalls, SavedCalls};
 use crate::calls::{SealCalls, StoreCalls, TrieCalls};
 
 /// The proved library.
@@ -42,6 +42,13 @@ impl StoreCalls for Library {
     #[inline]
     fn audit(store: &[u8]) -> Answer {
         lotlog::audit(store)
+    }
+}
+
+impl CopyCalls for Library {
+    #[inline]
+    fn compare(first: &[u8], second: &[u8]) -> Answer {
+        lotlog::compare(first, second)
     }
 }
 

@@ -1,13 +1,14 @@
 //! The second program behind the traits: its results as numbers and lent memory.
 
 use lotlog::{Answer, Digest, Held, Side};
+use second::copies::{self, Compared};
 use second::dispute::{self, Found};
 use second::hash::{self, Sha256};
 use second::refusal::{self, Refusal};
 use second::trie::{self, Shown};
 use second::{held, mac, proof, saved, sealed, store};
 
-use crate::calls::{AdvanceCalls, HashCalls, MemberCalls, SavedCalls};
+use crate::calls::{AdvanceCalls, CopyCalls, HashCalls, MemberCalls, SavedCalls};
 use crate::calls::{SealCalls, StoreCalls, TrieCalls};
 
 /// The second program.
@@ -82,6 +83,17 @@ impl StoreCalls for Second {
 
     fn audit(store: &[u8]) -> Answer {
         one_number(store::audit::<Sha256>(store))
+    }
+}
+
+impl CopyCalls for Second {
+    fn compare(first: &[u8], second: &[u8]) -> Answer {
+        numbers(copies::compare(first, second).map(|compared| match compared {
+            Compared::Equal => [0, 0, 0],
+            Compared::FirstShorter => [1, 0, 0],
+            Compared::SecondShorter => [2, 0, 0],
+            Compared::Differ { element, byte } => [3, element, byte],
+        }))
     }
 }
 

@@ -9,8 +9,8 @@ use second::store::{place, Log, HEADER, RECORD, STATE};
 use second::ENTRY_MOST;
 
 use crate::advance::Step;
-use crate::both::{Both, BothAdvance, BothKept, BothMember, BothStore};
-use crate::calls::{AdvanceCalls, HashCalls, MemberCalls, SavedCalls};
+use crate::both::{Both, BothAdvance, BothCopies, BothKept, BothMember, BothStore};
+use crate::calls::{AdvanceCalls, CopyCalls, HashCalls, MemberCalls, SavedCalls};
 use crate::calls::{SealCalls, StoreCalls, TrieCalls};
 use crate::damage::spoiled;
 use crate::logs::{read, sound};
@@ -22,11 +22,26 @@ use crate::{ends, saved, sealed, trie};
 const LOGS: [(u64, u64); 9] =
     [(0, 0), (0, 1), (1, 2), (7, 1), (8, 8), (40, 0), (100, 3), (1_000, 1), (4_500, 0)];
 
-/// Makes so many random calls or a few more.
-pub fn run<C>(both: &mut Both<C>, seed: u64, calls: u64)
-where
-    C: HashCalls + StoreCalls + MemberCalls + AdvanceCalls + SavedCalls + TrieCalls + SealCalls,
+/// Every call there is.
+pub trait AllCalls:
+    HashCalls + StoreCalls + CopyCalls + MemberCalls + AdvanceCalls + SavedCalls + TrieCalls + SealCalls
 {
+}
+
+impl<C> AllCalls for C where
+    C: HashCalls
+        + StoreCalls
+        + CopyCalls
+        + MemberCalls
+        + AdvanceCalls
+        + SavedCalls
+        + TrieCalls
+        + SealCalls
+{
+}
+
+/// Makes so many random calls or a few more.
+pub fn run<C: AllCalls>(both: &mut Both<C>, seed: u64, calls: u64) {
     LOGS.iter().for_each(|(elements, room)| old_store(both, *elements, *room));
     let stores = LOGS.map(|(elements, room)| sound(elements, room));
     let mut random = Random::new(seed);
@@ -35,7 +50,7 @@ where
     let enough = both.calls + calls;
     while both.calls < enough {
         let store = &stores[random.place(stores.len())];
-        match random.below(29) {
+        match random.below(31) {
             0 => hash(both, &mut random),
             1 => start(both, store, &mut random),
             2 | 3 => look(both, store, &mut random),
@@ -47,6 +62,7 @@ where
             20 | 21 => save(both, store, &mut random),
             22 => trie::any_call(both, &claims, &mut random),
             23 | 24 => sealed::any_call(both, &vans, &mut random),
+            25 | 26 => compare(both, &stores, &mut random),
             _ => dispute(both, store, &mut random),
         }
     }
@@ -54,23 +70,21 @@ where
 
 /// A store whose open records are marked 0, as document 01 had it: every call that reads it refuses
 /// it with 1, unless it is full.
-fn old_store<C>(both: &mut Both<C>, elements: u64, room: u64)
-where
-    C: StoreCalls + MemberCalls + AdvanceCalls,
-{
+fn old_store<C: AllCalls>(both: &mut Both<C>, elements: u64, room: u64) {
     let mut store = sound(elements, room);
     (elements + 1..=elements + room).for_each(|j| store[place(j) + STATE] = 0);
     let numbers = [
         both.count(&store).number,
         both.audit(&store).number,
+        both.compare(&store, &store).number,
         both.digest_at(&store, 0).0,
         both.held_at(&store, 0).0,
         both.build_advancement(&store, 0, 0, 0).number,
         both.build_membership(&store, elements.min(1), elements, 20_000).number,
         both.append(&mut store, b"x", RECORD as u64).number,
     ];
-    let full = [0, 0, 0, 0, 0, if elements == 0 { 4 } else { 0 }, 5];
-    assert_eq!(numbers, if room == 0 { full } else { [1; 7] });
+    let full = [0, 0, 0, 0, 0, 0, if elements == 0 { 4 } else { 0 }, 5];
+    assert_eq!(numbers, if room == 0 { full } else { [1; 8] });
 }
 
 /// The bytes as they are, or spoiled once in so many times.
@@ -173,6 +187,14 @@ fn look<C: StoreCalls + AdvanceCalls>(both: &mut Both<C>, store: &[u8], random: 
             both.held_start(random.next());
         }
     }
+}
+
+/// Compares a store with itself or with another, whose entries are the same as far as both go: each as
+/// it is or damaged.
+fn compare(both: &mut dyn BothCopies, stores: &[Vec<u8>], random: &mut Random) {
+    let one = &stores[random.place(stores.len())];
+    let other = if random.once_in(2) { one } else { &stores[random.place(stores.len())] };
+    both.compare(&maybe_damaged(one, random), &maybe_damaged(other, random));
 }
 
 fn append(both: &mut dyn BothStore, store: &[u8], random: &mut Random) {

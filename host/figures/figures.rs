@@ -14,6 +14,11 @@
 //! counted from 0, and the first bit of the parts named is turned. An answer is the number, the hops
 //! found good, the element, and the row or the level, 8 bytes each.
 //!
+//! Then stand the answers to two copies of that log, of so many elements each: the number, and the three
+//! beside it. Of the second copy, the first bit of a byte may be turned, which is named by its element
+//! and its place in the element's 64; from some element on its entries may be others, the byte 0 alone;
+//! and it may be another log's.
+//!
 //! At the end stand figures of the ends that document 02, A7, moves: the hops of paths and the lengths
 //! of their proofs, 8 bytes each; and what comes of a log of 4,294,967,295 elements, of which only
 //! those on the path from 1 are there. The entry of element j is the 8 bytes of j. The digest of any
@@ -21,6 +26,7 @@
 
 use std::collections::BTreeMap;
 
+use second::copies::{compare, Compared};
 use second::hash::{Hash, Sha256, Xor};
 use second::held::{check_advancement, held_of, held_start, in_use, Held, ROWS};
 use second::message::{element, element_digest, entry_digest, start_digest};
@@ -29,7 +35,7 @@ use second::proof::{check_membership, proof_of};
 use second::refusal::Refusal;
 use second::saved::file_of;
 use second::sealed::{self, BESIDE_DATA, CLOSING, FIRST_CHAIN};
-use second::store::{store_of, Log};
+use second::store::{header, place, store_of, Log};
 use second::trie::{self, Kind, PROOF_MOST};
 use second::{Digest, LIMIT};
 
@@ -94,10 +100,14 @@ fn print_trie<H: Hash>(hash: &str) {
     print_siblings::<H>(hash, "absence(B)", Kind::Absence, &list, b"B");
 }
 
-/// The store of the log of twelve elements.
+/// The entries of the log of twelve elements.
+fn more_entries() -> impl Iterator<Item = Vec<u8>> {
+    entries().into_iter().chain((4..=12).map(|j| vec![j; usize::from(j)]))
+}
+
+/// The store of that log.
 fn longer<H: Hash>() -> Vec<u8> {
-    let more = (4..=12).map(|j| vec![j; usize::from(j)]);
-    store_of::<H>(LOG, 12, entries().into_iter().chain(more))
+    store_of::<H>(LOG, 12, more_entries())
 }
 
 /// Files with no row, with two rows, with a free row between them, and with free rows below them.
@@ -158,6 +168,39 @@ fn print_van<H: Hash>(hash: &str) {
         log.extend(out);
     }
     print(&format!("{}.van.log", hash), &log);
+}
+
+/// The answer to two copies, the first of which is a store of so many elements of the log of twelve.
+fn print_copies<H: Hash>(name: &str, first: usize, second: &[u8]) {
+    let store = store_of::<H>(LOG, first as u64, more_entries().take(first));
+    let numbers = match compare(&store, second) {
+        Ok(Compared::Equal) => [0, 0, 0, 0],
+        Ok(Compared::FirstShorter) => [0, 1, 0, 0],
+        Ok(Compared::SecondShorter) => [0, 2, 0, 0],
+        Ok(Compared::Differ { element, byte }) => [0, 3, element, byte],
+        Err(refused) => [refused.number, 0, 0, 0],
+    };
+    print(name, &numbers.map(u64::to_be_bytes).concat());
+}
+
+/// Copies that are equal, that end sooner, that have a byte changed, where both go and where one does
+/// not, that have other entries, and that are another log's.
+fn print_compared<H: Hash>(hash: &str) {
+    let store = longer::<H>();
+    let name = |first, change: &str| format!("{}.compare({},12){}", hash, first, change);
+    print_copies::<H>(&name(12, ""), 12, &store);
+    print_copies::<H>(&name(5, ""), 5, &store);
+    let shorter = store_of::<H>(LOG, 7, more_entries().take(5));
+    print_copies::<H>(&format!("{}.compare(12,5)", hash), 12, &shorter);
+    for (first, element, byte) in [(12, 1, 0), (12, 12, 63), (5, 5, 32), (5, 6, 0)] {
+        let mut second = store.clone();
+        second[place(element) + byte] ^= 0x80;
+        print_copies::<H>(&name(first, &format!(".turned({},{})", element, byte)), first, &second);
+    }
+    let others = more_entries().take(8).chain((9..=12).map(|_| vec![0]));
+    print_copies::<H>(&name(12, ".other(9)"), 12, &store_of::<H>(LOG, 12, others));
+    let other_log = [&header(LOG + 1)[..], &store[16..]].concat();
+    print_copies::<H>(&name(5, ".log(8)"), 5, &other_log);
 }
 
 /// The limit before A7, and the middle of the new one, to which the longest hop goes.
@@ -274,6 +317,7 @@ fn main() {
     print_broken::<Sha256>("sha256");
     print_van::<Xor>("standin");
     print_van::<Sha256>("sha256");
+    print_compared::<Sha256>("sha256");
     print_lengths();
     print_ends::<Xor>("standin");
     print_ends::<Sha256>("sha256");

@@ -35,6 +35,7 @@
  *   24  van's log: an entry is cut short, too long, wrongly sealed or after a closing one; `answer` says
  *       which, from 0
  *   25  van's log: no closing entry
+ *   26  two stores: their log numbers differ
  *
  * Lent memory. A refused call leaves every store, digest, handle, root, held state, key, output and
  * buffer as it was. `answer` is no lent memory in that sense: it is written whole by each call that takes it,
@@ -146,6 +147,14 @@ uint64_t lot_digest_at(const uint8_t *store, size_t store_length, uint64_t at, u
 /* Recomputes every T from the stored d. Refusals: 1, 12. Answer: the count, or with 12 the lowest
    element whose T is wrong. */
 uint64_t lot_audit(const uint8_t *store, size_t store_length, uint64_t answer[3]);
+
+/* Compares two stores of one log, element by element, the 64 bytes of d and T of each; what stands in
+   open room, and how much of it there is, does not count. The same store may be lent twice. Refusals: 1
+   if either is damaged, then 26. Answer: 0 if they are equal; 1 if the first is the start of the second,
+   2 if the second is the start of the first; else 3, the first element at which they differ, and the
+   first byte within its 64, from 0. */
+uint64_t lot_compare(const uint8_t *first, size_t first_length, const uint8_t *second,
+                     size_t second_length, uint64_t answer[3]);
 
 /* Builds the membership proof for (i, n) at the start of `out`; what lies after it stays. Refusals: 1,
    4, 6. Answer: the proof's length. */

@@ -29,6 +29,10 @@ static uint8_t bad_link[352], bad_row[192]; /* proof and advance with a bit turn
 static uint8_t held_2[LOT_HELD_BYTES], held_5[LOT_HELD_BYTES];
 static uint8_t file_5[LOT_HELD_FILE_LEAST + 2 * LOT_DIGEST_BYTES]; /* 5 has two rows in use */
 
+/* Stores to compare with that one: the first two elements alone, all of them with a bit of the last T
+   turned, and the store of another log. */
+static uint8_t store_2[LOT_STORE_BYTES(2)], changed_store[sizeof store], other_log[sizeof store];
+
 /* The material of the trie, where the entry is a key: its handle and another with the last bit turned,
    both in one list, where it is present; and the other alone, where it is absent by 256 siblings. */
 static uint8_t handle[LOT_DIGEST_BYTES], handles[2 * LOT_DIGEST_BYTES], other[LOT_DIGEST_BYTES];
@@ -63,6 +67,7 @@ CALL(count, SLICE(0), ANSWER(1))
 CALL(append, SLICE(0), SLICE(1), FIRST, ANSWER(2))
 CALL(digest_at, SLICE(0), FIRST, ARRAY(1))
 CALL(audit, SLICE(0), ANSWER(1))
+CALL(compare, SLICE(0), SLICE(1), ANSWER(2))
 CALL(build_membership, SLICE(0), BOTH, SLICE(1), ANSWER(2))
 CALL(check_membership, SLICE(0), BOTH, ARRAY(1), SLICE(2), ANSWER(3))
 CALL(dispute, SLICE(0), SLICE(1), SLICE(2), SLICE(3), BOTH, ARRAY(4), SLICE(5), SLICE(6), ANSWER(7))
@@ -100,10 +105,17 @@ struct piece {
 #define FIXED_OUT(length) {AN_ARRAY, NULL, length, 0}
 #define TOLD {AN_ANSWER, NULL, LOT_ANSWER_NUMBERS * sizeof(uint64_t), 0}
 
-/* What a call of the table returns. Broken proofs are refused. Else the clash alone is not done: under
-   SHA-256 no one can make the two accepted proofs that it takes. So it is refused as late as it can be,
-   when both have been read. */
-enum { DONE = 0, ROW_DIFFERS = 9, LINK_DIFFERS = 10, NOT_ACCEPTED = 13, ENTRY_WRONG = 24 };
+/* What a call of the table returns. Broken proofs and another log's store are refused. Else the clash
+   alone is not done: under SHA-256 no one can make the two accepted proofs that it takes. So it is
+   refused as late as it can be, when both have been read. */
+enum {
+    DONE = 0,
+    ROW_DIFFERS = 9,
+    LINK_DIFFERS = 10,
+    NOT_ACCEPTED = 13,
+    ENTRY_WRONG = 24,
+    LOGS_DIFFER = 26
+};
 
 /* A call: the numbers that it takes, the number that it returns, its answer, and what it is lent. */
 struct test {
@@ -121,6 +133,13 @@ static const struct test tests[] = {
      {IN(store, 1), IN(entry, 0), TOLD}},
     {"digest at", call_digest_at, {COUNT, 0}, DONE, {0}, {IN(store, 1), FIXED_OUT(32)}},
     {"audit", call_audit, {0, 0}, DONE, {COUNT}, {IN(store, 1), TOLD}},
+    {"compare", call_compare, {0, 0}, DONE, {0}, {IN(store, 1), IN(store, 1), TOLD}},
+    {"compare with the start", call_compare, {0, 0}, DONE, {2}, {IN(store, 1), IN(store_2, 1), TOLD}},
+    {"compare the start", call_compare, {0, 0}, DONE, {1}, {IN(store_2, 1), IN(store, 1), TOLD}},
+    {"compare with a changed store", call_compare, {0, 0}, DONE, {3, COUNT, 63},
+     {IN(store, 1), IN(changed_store, 1), TOLD}},
+    {"compare with another log's store", call_compare, {0, 0}, LOGS_DIFFER, {0},
+     {IN(store, 1), IN(other_log, 1), TOLD}},
     {"build membership", call_build_membership, {1, COUNT}, DONE, {sizeof proof},
      {IN(store, 1), OUT(sizeof proof, 6), TOLD}},
     {"check membership", call_check_membership, {1, COUNT}, DONE, {3},
@@ -343,6 +362,11 @@ static int prepare(void) {
     refused |= lot_held_at(store, sizeof store, 2, held_2);
     refused |= lot_held_at(store, sizeof store, COUNT, held_5);
     refused |= lot_held_write(held_5, file_5, sizeof file_5, answer);
+    memcpy(store_2, store, sizeof store_2);
+    memcpy(changed_store, store, sizeof store);
+    changed_store[LOT_STORE_BYTES(COUNT) - 2] ^= 1; /* the byte before the state byte of the last */
+    memcpy(other_log, store, sizeof store);
+    other_log[LOT_HEADER_BYTES - 1] ^= 1;
     memcpy(changed, proof, sizeof proof);
     changed[sizeof changed - 1] ^= 1; /* in the last component, which has 64 bytes */
     memcpy(bad_link, proof, sizeof proof);

@@ -87,6 +87,7 @@ pub fn meaning(number: u64) -> &'static str {
         23 => "van's log closed",
         24 => "entry of a van's log wrong",
         25 => "no closing entry",
+        26 => "log numbers differ",
         _ => "no number of documents 01 and 02",
     }
 }
@@ -148,6 +149,13 @@ mod raw {
         ) -> u64;
         pub fn lot_digest_at(store: *const u8, length: usize, at: u64, digest: *mut u8) -> u64;
         pub fn lot_audit(store: *const u8, length: usize, answer: *mut u64) -> u64;
+        pub fn lot_compare(
+            first: *const u8,
+            first_length: usize,
+            second: *const u8,
+            second_length: usize,
+            answer: *mut u64,
+        ) -> u64;
         pub fn lot_build_membership(
             store: *const u8,
             length: usize,
@@ -345,6 +353,17 @@ pub fn digest_at(store: &[u8], at: u64, digest: &mut Digest) -> u64 {
 #[inline]
 pub fn audit(store: &[u8]) -> Answer {
     answered(|answer| unsafe { raw::lot_audit(store.as_ptr(), store.len(), answer) })
+}
+
+/// Compares two stores of one log by the 64 bytes of each element, whatever stands in open room;
+/// answers 0 if they are equal, 1 if the first is the start of the second, 2 if the second is the start
+/// of the first, else 3, the first element at which they differ, and the first byte within its 64, from
+/// 0. Refusals: 1, 26.
+#[inline]
+pub fn compare(first: &[u8], second: &[u8]) -> Answer {
+    answered(|answer| unsafe {
+        raw::lot_compare(first.as_ptr(), first.len(), second.as_ptr(), second.len(), answer)
+    })
 }
 
 /// Builds the membership proof for (i, n); answers its length. Refusals: 1, 4, 6.

@@ -1,7 +1,7 @@
 //! "When the counter says no": the numbers of the table and what stands beside them.
 //!
 //! 1 to 13 are document 01's. "New refusals, here and later, take the next free numbers in the
-//! order named", says document 02, A1, and names 14 to 17; A4 names 18 to 22, A6 names 23 to 25.
+//! order named", says document 02, A1, and names 14 to 17; A4 names 18 to 22, A6 names 23 to 25, A8 names 26.
 
 /// A refused call: its number in the table, the number returned beside it, and where a proof broke.
 ///
@@ -83,6 +83,8 @@ pub const LOG_CLOSED: u64 = 23;
 pub const BAD_ENTRY: u64 = 24;
 /// "no closing entry stands there"
 pub const NOT_CLOSED: u64 = 25;
+/// "A different log number is refused with a new number"
+pub const OTHER_LOG: u64 = 26;
 
 /// A refusal with 0 beside it.
 pub fn refuse<T>(number: u64) -> Answer<T> {

@@ -1,16 +1,18 @@
-//! The second program: documents 01 and 02 (A1, A2, A4, A5, A6, A7) written down once more, from
+//! The second program: documents 01 and 02 (A1, A2, A4, A5, A6, A7, A8) written down once more, from
 //! their text alone. A3 changes nothing that is seen.
 //!
 //! It shares no code with the proved crates and follows another plan: it parses a proof into its
-//! components before it looks at any, and a van's log into its entries, keeps paths and messages in
-//! vectors, forms a trie level by level from the leaves up, and answers with `Result`. The
-//! comparisons in `host/compare` hold every call of the proved library to it.
+//! components before it looks at any, a van's log into its entries, and two stores that should agree
+//! into their elements, keeps paths and messages in vectors, forms a trie level by level from the
+//! leaves up, and answers with `Result`. The comparisons in `host/compare` hold every call of the
+//! proved library to it.
 //!
-//! Words in quotation marks are sentences of document 01; in [`trie`], [`saved`] and [`sealed`],
-//! and where a proof broke, of document 02; and in [`mac`] of RFC 2104. Where 01 prints the limit or
-//! the number of rows, A7 has moved it. Every call is generic over the hash, so that the stand-in
-//! can take the place of SHA-256.
+//! Words in quotation marks are sentences of document 01; in [`trie`], [`saved`], [`sealed`] and
+//! [`copies`], and where a proof broke, of document 02; and in [`mac`] of RFC 2104. Where 01 prints
+//! the limit or the number of rows, A7 has moved it. Every call that hashes is generic over the
+//! hash, so that the stand-in can take the place of SHA-256.
 
+pub mod copies;
 pub mod dispute;
 pub mod hash;
 pub mod held;
@@ -25,6 +27,8 @@ pub mod sealed;
 pub mod store;
 pub mod trie;
 
+#[cfg(test)]
+mod copies_tests;
 #[cfg(test)]
 mod ends_tests;
 #[cfg(test)]

@@ -5,7 +5,8 @@ use std::panic;
 
 use compare::both::{Both, BothAdvance, BothMember};
 use compare::faulty::{self, Faulty};
-use compare::{advance, ends, hash, member, places, saved, sealed, store, trie, whole, Scale};
+use compare::{advance, copies, ends, hash, member, places};
+use compare::{saved, sealed, store, trie, whole, Scale};
 use lotlog::{Answer, Place};
 
 const SEED: u64 = 4;
@@ -35,6 +36,8 @@ fn words() {
         (answer(10, [1, 8, 1]), place, "link differs at element 8, level 1"),
         (answer(11, [3, 0, 0]), None, "last digest differs"),
         (answer(13, [1, 0, 0]), None, "proof not accepted"),
+        (answer(26, [0, 0, 0]), None, "log numbers differ"),
+        (answer(0, [3, 12, 63]), None, "done"),
         (answer(0, [3, 0, 0]), None, "done"),
     ] {
         assert_eq!((answer.place(), answer.meaning().as_str()), (place, words));
@@ -53,6 +56,7 @@ fn agreed() -> Both<Faulty> {
     ends::run(&mut both, Scale::Small);
     trie::run(&mut both, Scale::Small);
     sealed::run(&mut both, Scale::Small);
+    copies::run(&mut both, Scale::Small);
     whole::run(&mut both, SEED, CALLS);
     told_of_members::run(&mut both, Scale::Small);
     told_of_steps::run(&mut both, Scale::Small);
@@ -125,6 +129,37 @@ fn unnoticed_of_sealed() -> Vec<&'static str> {
     [unnoticed_of_sealed!(sealed), unnoticed_of_sealed!(told_of_seals)].concat()
 }
 
+/// Runs a group on each fault of comparing two stores.
+macro_rules! unnoticed_of_copies {
+    ($group:ident) => {
+        unnoticed! {
+            $group: LENGTHS_BEFORE_BYTES ONLY_D_COMPARED ONLY_T_COMPARED BYTE_0_NOT_COMPARED
+                BYTE_63_NOT_COMPARED HIGH_BIT_NOT_COMPARED GREATER_BYTES_ALONE BYTE_FROM_1
+                BYTE_FROM_T BYTE_OF_THE_STORE ELEMENT_FROM_0 ELEMENT_AND_BYTE_SWAPPED
+                DIFFER_WITHOUT_ITS_3 LAST_ELEMENT_THAT_DIFFERS LAST_BYTE_THAT_DIFFERS
+                LAST_OF_ALL_DIFFERENCES LOWEST_BYTE_OF_ANY_ELEMENT LAST_COMMON_ELEMENT_LEFT_OUT
+                FIRST_ELEMENT_LEFT_OUT FIRST_32_ELEMENTS_ALONE ELEMENT_OF_8_BITS ELEMENT_OF_16_BITS
+                RECORDS_OF_64 ALL_RECORDS_COMPARED RECORDS_OF_THE_LONGER_COMPARED
+                ONE_RECORD_MORE_COMPARED CAPACITIES_FOR_LENGTHS BYTES_FOR_LENGTHS
+                BYTES_PAST_THE_CAPACITY_COMPARED SHORTER_SWAPPED ALWAYS_THE_FIRST_SHORTER
+                ALWAYS_THE_SECOND_SHORTER EQUAL_FOR_SHORTER EQUAL_FOR_FIRST_SHORTER
+                EQUAL_FOR_SECOND_SHORTER SHORTER_FOR_EQUAL EMPTY_IS_EQUAL_TO_ALL
+                ELEMENT_BESIDE_SHORTER LOG_NUMBERS_BEFORE_DAMAGE LOG_NUMBERS_BEFORE_STATES
+                LOG_NUMBERS_AFTER_THE_RECORDS LOG_NUMBERS_NOT_COMPARED LOW_HALF_OF_LOG_NUMBERS
+                HIGH_HALF_OF_LOG_NUMBERS FIRST_OF_LOG_NUMBERS_IGNORED LOG_NUMBERS_ARE_DAMAGE
+                DIFFERENCE_BESIDE_26 LENGTH_BESIDE_1 TAKES_A_DAMAGED_FIRST TAKES_A_DAMAGED_SECOND
+                STATES_OF_FIRST_NOT_READ STATES_OF_SECOND_NOT_READ HEADER_OF_FIRST_NOT_READ
+                HEADER_OF_SECOND_NOT_READ STATES_UP_TO_AN_OPEN_ONE STATES_OF_COMMON_RECORDS_ALONE
+                ONE_SOUND_STORE_IS_ENOUGH COMPARES_32_KIB_AT_MOST OPEN_IS_ZERO ZERO_IS_OPEN_TOO;
+        }
+    };
+}
+
+/// The faults of comparing two stores that are not noticed.
+fn unnoticed_of_copies() -> Vec<&'static str> {
+    [unnoticed_of_copies!(copies), unnoticed_of_copies!(told_of_copies)].concat()
+}
+
 /// Runs a group on each fault of the limit, the levels and the rows, and on those of files that have
 /// to do with these.
 macro_rules! unnoticed_of_ends {
@@ -176,7 +211,8 @@ fn unnoticed_of_others() -> Vec<&'static str> {
         everything: PADDING_AT_55_BYTES CLOSES_TOO_EARLY IGNORES_A_TAIL NEVER_CHECKS_ROWS
             ROWS_HIGHEST_FIRST TAIL_OF_A_FILE_IGNORED TAKES_ANY_ROOT NAMES_THE_LINK_OF_A_ROW
             OLD_KEY_KEPT NAMES_THE_ENTRY_AFTER HASHES_A_KEY_OF_64 KEEPS_THE_OLD_LIMIT LIMIT_ONE_MORE
-            HOPS_UP_TO_LEVEL_19 KEEPS_TWENTY_ROWS;
+            HOPS_UP_TO_LEVEL_19 KEEPS_TWENTY_ROWS LENGTHS_BEFORE_BYTES BYTE_FROM_1 SHORTER_SWAPPED
+            LOG_NUMBERS_NOT_COMPARED TAKES_A_DAMAGED_SECOND;
     }
 }
 
@@ -184,9 +220,14 @@ fn main() {
     words();
     let Both { calls, told, .. } = agreed();
     panic::set_hook(Box::new(|_| ()));
-    let unnoticed =
-        [unnoticed_of_proofs(), unnoticed_of_ends(), unnoticed_of_sealed(), unnoticed_of_others()]
-            .concat();
+    let unnoticed = [
+        unnoticed_of_proofs(),
+        unnoticed_of_ends(),
+        unnoticed_of_sealed(),
+        unnoticed_of_copies(),
+        unnoticed_of_others(),
+    ]
+    .concat();
     if !unnoticed.is_empty() {
         eprintln!("faults that were not noticed: {}", unnoticed.join(", "));
         std::process::exit(1);
@@ -198,13 +239,9 @@ fn main() {
 /// The group `whole` in the shape of the others.
 mod everything {
     use super::*;
-    use compare::calls::{AdvanceCalls, HashCalls, MemberCalls, SavedCalls};
-    use compare::calls::{SealCalls, StoreCalls, TrieCalls};
+    use compare::whole::AllCalls;
 
-    pub fn run<C>(both: &mut Both<C>, _: Scale)
-    where
-        C: HashCalls + StoreCalls + MemberCalls + AdvanceCalls + SavedCalls + TrieCalls + SealCalls,
-    {
+    pub fn run<C: AllCalls>(both: &mut Both<C>, _: Scale) {
         whole::run(both, SEED, CALLS);
     }
 }
@@ -247,6 +284,16 @@ mod told_of_ends {
         C: StoreCalls + MemberCalls + AdvanceCalls + SavedCalls,
     {
         ends::run(&mut Both::<C, C>::default(), scale);
+    }
+}
+
+/// The same of two stores that should agree.
+mod told_of_copies {
+    use super::*;
+    use compare::calls::CopyCalls;
+
+    pub fn run<C: CopyCalls>(_: &mut Both<C>, scale: Scale) {
+        copies::run(&mut Both::<C, C>::default(), scale);
     }
 }
 
