@@ -2,6 +2,7 @@
 
 Standard input has five texts for each, NUL behind each: the command's words, the command, its status, the fields as
 JSON (an array where there are several answers), and what came. A field that is null must only be there, as a text.
+Fields that begin with the command are the whole object, in this order.
 Prints how many there were."""
 import json
 import sys
@@ -26,6 +27,8 @@ def fault(command, status, fields, came):
             return "the fields do not begin with command and status, or one is there twice"
         if answer["command"] != command or last and answer["status"] != status:
             return "command or status"
+        if "command" in fields and pairs != list(fields.items()):
+            return "there are other fields, or another order"
         for name, value in fields.items():
             if name not in answer or not (answer[name] == value or value is None and isinstance(answer[name], str)):
                 return f"{name} is {answer.get(name)!r} and not {value!r}"

@@ -98,6 +98,20 @@ complains() { # STATUS TEXT WORD..
     judge "$1" '' "$2"$'\n'
 }
 
+# The answer of compare-stores, with the line that belongs to it on standard error, if one does.
+compares() { # STATUS ANSWER ASIDE WORD..
+    capture "${@:4}"
+    judge "$1" "$2"$'\n' "${3:+lot compare-stores: $3$'\n'}"
+}
+
+# A file that can't be read: a complaint with the system's reason; compare-stores has an answer for it besides.
+unread() { # NAME REASON WORD..
+    case $3 in
+    compare-stores) compares 2 unread "$1: $2" "${@:3}" ;;
+    *) complains 2 "lot $3: $1: $2" "${@:3}" ;;
+    esac
+}
+
 # A complaint of one line that fits a pattern, where the words are not settled.
 complains_like() { # STATUS PATTERN WORD..
     capture "${@:3}"

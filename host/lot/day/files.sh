@@ -23,6 +23,8 @@ lay_out() {
     mkdir good
     cp "$rules/store.12" good/store
     printf '%065d' 0 | tr '0' '\377' >>good/store
+    # a copy of it in another room, with other bytes there
+    { cat "$rules/store.12"; printf '%064d\377%064d\377' 1 2; } >good/copy
     cp "$rules/held.8" good/held8
     cp "$rules/held.12" good/held
     cp "$rules/growth.8.12" good/growth
@@ -38,7 +40,7 @@ lay_out() {
     cp "$rules/van.1" good/open
     cp "$rules/data.1" good/data
     readers=(
-        'count @store' 'digest @store' 'audit @store' 'prove @store 5 -o out' 'prove-growth @store 5 -o out'
+        'count @store' 'digest @store' 'audit @store' 'compare-stores @store @copy' 'prove @store 5 -o out' 'prove-growth @store 5 -o out'
         'show @held' "compare @held 12 ${T[12]}" 'verify @held 5 @entry @proof'
         "verify 5 @entry @proof --at 12 --digest ${T[12]}"
         "dispute 5 12 ${T[12]} @entry @proof @entry @proof -o out out2" "draw 5 12 ${T[12]} @entry @proof"
@@ -96,7 +98,7 @@ missing_files() {
 missing() { # KIND WORD..
     rm "$1"
     [ "$1" != open ] || return 0
-    still complains 2 "lot $2: $1: No such file or directory" "${@:2}"
+    still unread "$1" 'No such file or directory' "${@:2}"
 }
 
 folders() {
@@ -111,7 +113,7 @@ folders() {
 folder() { # KIND WORD..
     rm "$1"
     mkdir "$1"
-    still complains 2 "lot $2: $1: Is a directory" "${@:2}"
+    still unread "$1" 'Is a directory' "${@:2}"
 }
 
 # --- contents --------------------------------------------------------------------------------------------------
@@ -124,7 +126,7 @@ empty_files() {
 empty() { # KIND WORD..
     : >"$1"
     case $1 in
-    store) still refuses 3 1 '' "${@:2}" ;;
+    store | copy) still damaged_store "$@" ;;
     held | held8) still refuses 3 18 '' "${@:2}" ;;
     growth) still refuses 1 7 '' "${@:2}" ;;
     proof | entry) empty_of_proof "$@" ;;
@@ -135,6 +137,14 @@ empty() { # KIND WORD..
     log) still refuses 1 25 '' "${@:2}" ;;
     lines) still expect 0 '' "${@:2}" ;;
     *) empty_is_good "$@" ;;
+    esac
+}
+
+# The damage of a store, which compare-stores tells by the store's name.
+damaged_store() { # KIND WORD..
+    case $2 in
+    compare-stores) compares 3 'refused 1' "refused 1: ${meaning[1]}: $1" "${@:2}" ;;
+    *) refuses 3 1 '' "${@:2}" ;;
     esac
 }
 
@@ -176,7 +186,7 @@ cut_files() {
 cut_short() { # KIND WORD..
     truncate -s -1 "$1"
     case $1 in
-    store) [ "$2" != append ] || still refuses 3 5 ", $([ "$4" = --lines ] && echo lines:1 || echo entry)" "${@:2}" ;;
+    store | copy) cut_store "$@" ;;
     held | held8) still refuses 3 22 '' "${@:2}" ;;
     growth) still refuses 1 7 '' "${@:2}" ;;
     proof | entry) [ "$2" = append ] || empty_of_proof "$@" ;;
@@ -184,6 +194,14 @@ cut_short() { # KIND WORD..
     key) still refuses 3 6 '' "${@:2}" ;;
     first) still complains_like 2 'lot seal-check: first: *' "${@:2}" ;;
     log) still refuses 1 24 " at entry $((entries - 1))" "${@:2}" ;;
+    esac
+}
+
+# There is no room any more for an append, and two stores are compared without their room.
+cut_store() { # KIND WORD..
+    case $2 in
+    append) still refuses 3 5 ", $([ "$4" = --lines ] && echo lines:1 || echo entry)" "${@:2}" ;;
+    compare-stores) still expect 0 equal "${@:2}" ;;
     esac
 }
 
@@ -214,7 +232,7 @@ unreadable_files() {
 
 unreadable() { # KIND WORD..
     chmod 000 "$1"
-    as_stranger still complains 2 "lot $2: $1: Permission denied" "${@:2}"
+    as_stranger still unread "$1" 'Permission denied' "${@:2}"
 }
 
 read_only_files() {
@@ -328,7 +346,7 @@ standard_input() {
     local refused=('init - --log 7 --room 16' 'grow - --room 64' 'append - entry' 'hold - --log 7' "advance - 12 ${T[12]} growth"
         'seal - --key key --type 2 data' 'seal open --key - --type 2 data' 'seal-close - --key key' 'seal-close open --key -'
         'verify - 5 - proof' 'verify held 5 - -' 'append store - -' "draw 5 12 ${T[12]} - -" 'seal-check - --first-key -'
-        "dispute 5 12 ${T[12]} - proof - proof -o A B")
+        "dispute 5 12 ${T[12]} - proof - proof -o A B" 'compare-stores - -')
     local line
     each_file through_input "${readers[@]}" "${writers[@]}"
     fresh

@@ -164,6 +164,8 @@ find_damage() {
         expect 3 "$line" digest damaged.lot
         expect 3 "$line" prove damaged.lot 1 -o proof
         expect 3 "$line" prove-growth damaged.lot 0 -o proof
+        compares 3 "${line%%:*}" "$line: damaged.lot" compare-stores damaged.lot store.lot
+        compares 3 "${line%%:*}" "$line: damaged.lot" compare-stores store.lot damaged.lot
     done < <(awk 'NR % 7 == 0' "$rules/stores.list")
     still refuses 3 1 '' append damaged.lot entry.1
     still refuses 3 1 '' grow damaged.lot --room 64

@@ -1,7 +1,7 @@
 # Words: usage, numbers, digests, help, JSON and quiet. Every subcommand, good and refused.
 
-commands=(init grow append count digest audit prove prove-growth hold show advance verify compare dispute draw
-    root absent present verify-absent verify-present seal seal-close seal-check)
+commands=(init grow append count digest audit compare-stores prove prove-growth hold show advance verify compare dispute
+    draw root absent present verify-absent verify-present seal seal-close seal-check)
 
 day_words() {
     word_set
@@ -11,12 +11,13 @@ day_words() {
     wrong_digests
     right_words
     json_house
+    json_copies
     json_practice
     json_absence
     json_van
     json_complaints
-    read_answers
     quiet_words
+    read_answers
     say "help of ${#commands[@]} subcommands, usage, numbers, digests, $answers answers in JSON, quiet"
 }
 
@@ -32,6 +33,11 @@ word_set() {
     printf 'x' | dd of=wrong.lot bs=1 seek=$((16 + 65 * 4 + 40)) conv=notrunc status=none
     cp store.lot damaged.lot
     printf 'x' | dd of=damaged.lot bs=1 seek=$((16 + 64)) conv=notrunc status=none
+    cp store.lot copy.lot
+    cp store.lot twin.lot
+    head -c $((16 + 65 * 5)) store.lot >five.lot
+    cp store.lot eight.lot
+    printf '\10' | dd of=eight.lot bs=1 seek=15 conv=notrunc status=none
     cp proof.5.12 bad
     printf 'x' | dd of=bad bs=1 seek=$((32 * 7)) conv=notrunc status=none
     head -c 4097 /dev/zero >long
@@ -54,15 +60,28 @@ help_pages() {
     [[ $status == 0 && -z $aside ]] || fail 'status 0'
     for name in "${commands[@]}"; do grep -qw -- "$name" <<<"$page" || fail "the manual page to name $name"; done
     for number in 0 1 2 3; do grep -qE "(^|[^0-9])$number([^0-9]|$)" <<<"$page" || fail "the manual page to name status $number"; done
-    for number in {1..25}; do
+    for number in {1..26}; do
         tr -s ' \n' ' ' <<<"$page" | grep -qF -- "${meaning[number]}" || fail "the manual page to say what $number means: ${meaning[number]}"
-        grep -qE "(^|[^0-9])$number([^0-9]|$)" <<<"$page" || fail "the manual page to name refusal $number"
+        grep -qE "^ +$number +${meaning[number]}\$" <<<"$page" || fail "the manual page to name refusal $number and its meaning on a line"
     done
+    in_group 'THE HOUSE' 'THE PRACTICE' '    lot compare-stores STORE1 STORE2'
     capture help --man
     [[ $status == 0 && -z $aside && $answer == *.TH\ * ]] || fail 'a page for man'
+    for name in "${commands[@]}"; do [[ $answer == *$'\n.B lot '"${name//-/\\-} "* ]] || fail "the page for man to name $name"; done
+    for number in {1..26}; do
+        [[ $answer == *$'\n.B '"$number"$'\n'"${meaning[number]}"$'\n'* ]] || fail "the page for man to say what $number means"
+    done
+    in_group '.SH THE HOUSE' '.SH THE PRACTICE' '.B lot compare\-stores STORE1 STORE2'
     capture --version
     [[ $status == 0 && -z $aside && $answer == 'lot 1.0'*$'\n' && ${answer%$'\n'} != *$'\n'* ]] || fail 'one line that begins with lot 1.0'
     no_command
+}
+
+# A line stands once on a page, between two headings.
+in_group() { # HEADING NEXT LINE
+    local group=${answer#*$'\n'"$1"$'\n'}
+    group=${group%%$'\n'"$2"$'\n'*}
+    [ "$(grep -cxF -- "$3" <<<"$group")" = 1 ] && [ "$(grep -cxF -- "$3" <<<"$answer")" = 1 ] || fail "'$3' between $1 and $2"
 }
 
 no_command() {
@@ -80,8 +99,8 @@ no_command() {
 # Good words for each command; what is put behind them, or taken away, makes them wrong.
 good_words() {
     printf '%s\n' 'init new --log 7 --room 16' 'grow store.lot --room 16' 'append store.lot entry.5' \
-        'count store.lot' 'digest store.lot 12' 'audit store.lot' 'prove store.lot 5 -o new' 'prove-growth store.lot 5 -o new' \
-        'hold new --log 7' 'show held.12' "advance held.8 12 ${T[12]} growth.8.12" 'verify held.12 5 entry.5 proof.5.12' \
+        'count store.lot' 'digest store.lot 12' 'audit store.lot' 'compare-stores copy.lot twin.lot' 'prove store.lot 5 -o new' \
+        'prove-growth store.lot 5 -o new' 'hold new --log 7' 'show held.12' "advance held.8 12 ${T[12]} growth.8.12" 'verify held.12 5 entry.5 proof.5.12' \
         "compare held.12 12 ${T[12]}" "dispute 5 12 ${T[12]} entry.5 proof.5.12 entry.5 proof.5.12 -o A B" \
         "draw 5 12 ${T[12]} entry.5 proof.5.12" 'root keys.txt' "absent keys.txt ${others[9]} -o new" \
         "present keys.txt ${listed[0]} -o new" "verify-absent $root ${others[9]} absent" "verify-present $root ${listed[0]} present" \
@@ -106,6 +125,10 @@ wrong_usage() {
     still misused append store.lot
     still misused append store.lot entry.5 --lines lots.txt
     still misused append --lines lots.txt
+    still misused compare-stores store.lot
+    still misused compare-stores store.lot copy.lot twin.lot five.lot
+    still misused compare-stores none
+    still misused compare-stores none none none
     still misused verify 5 entry.5 proof.5.12 --at 12
     still misused verify 5 entry.5 proof.5.12 --digest "${T[12]}"
     still misused verify held.12 5 entry.5 proof.5.12 --at 12 --digest "${T[12]}"
@@ -175,6 +198,9 @@ right_words() {
     expect 0 12 count -- -store
     expect 0 12 count ./-store
     rm -- -store
+    expect 0 equal compare-stores -- store.lot copy.lot
+    expect 0 '{"command":"compare-stores","status":0,"answer":"equal"}' compare-stores --json store.lot copy.lot
+    expect 1 '' compare-stores five.lot -q copy.lot
     expect 0 "$line" verify --at=12 5 --digest="${T[12]^^}" entry.5 proof.5.12
     expect 0 "$line" verify 5 entry.5 --digest "${T[12]}" proof.5.12 --at 12
     expect 0 'element 5 of 12, 448 bytes' prove -o new store.lot --at 12 5
@@ -210,6 +236,30 @@ json_house() {
     json 0 '{"from":8,"to":12,"bytes":128}' prove-growth store.lot 8 -o new
     json 2 '{"refused":4,"meaning":"no such position or length"}' prove-growth store.lot 13 -o new
     rm new
+}
+
+# Whole objects: there is nothing else in them.
+json_copies() {
+    local one='{"command":"compare-stores","status":1' three='{"command":"compare-stores","status":3'
+    json 0 '{"command":"compare-stores","status":0,"answer":"equal"}' compare-stores store.lot copy.lot
+    json 1 "$one,\"answer\":\"first shorter\"}" compare-stores five.lot store.lot
+    json 1 "$one,\"answer\":\"second shorter\"}" compare-stores store.lot five.lot
+    json 1 "$one,\"answer\":\"differ\",\"element\":5,\"byte\":40}" compare-stores wrong.lot store.lot
+    json 1 "$one,\"answer\":\"differ\",\"element\":5,\"byte\":40}" compare-stores five.lot wrong.lot
+    json 1 "$one,\"refused\":26,\"meaning\":\"log numbers differ\"}" compare-stores eight.lot store.lot
+    json 3 "$three,\"refused\":1,\"meaning\":\"store damaged\"}" compare-stores damaged.lot store.lot
+    json 3 "$three,\"refused\":1,\"meaning\":\"store damaged\"}" compare-stores eight.lot damaged.lot
+    json_unread none compare-stores none store.lot
+    json_unread none compare-stores damaged.lot none
+    json 2 '{"error":null}' compare-stores - -
+    json 2 '{"error":null}' compare-stores store.lot
+    json 2 '{"error":null}' compare-stores store.lot copy.lot twin.lot
+}
+
+# An answer and a complaint, each an object on its own stream.
+json_unread() { # NAME WORD..
+    json 2 '{"command":"compare-stores","status":2,"answer":"unread"}' "${@:2}"
+    printf '%s\0' "${*:2}" "$2" 2 "{\"error\":\"$1: No such file or directory\"}" "$aside" >>"$work/answers"
 }
 
 json_practice() {
@@ -321,6 +371,13 @@ quiet_words() {
 quiet_troubles() {
     quiet 1 audit wrong.lot
     quiet 3 audit damaged.lot
+    quiet 0 compare-stores copy.lot twin.lot
+    quiet 1 compare-stores five.lot copy.lot
+    quiet 1 compare-stores copy.lot five.lot
+    quiet 1 compare-stores copy.lot wrong.lot
+    quiet 1 compare-stores copy.lot eight.lot
+    quiet 3 compare-stores damaged.lot copy.lot
+    quiet 3 compare-stores copy.lot damaged.lot
     quiet 1 verify held.12 5 entry.5 bad
     quiet 1 compare held.12 12 "${T[5]}"
     quiet 3 show empty
@@ -328,4 +385,7 @@ quiet_troubles() {
     quiet 1 absent keys.txt "${listed[0]}" -o new
     capture audit none "$quiet"
     [[ $status == 2 && -z $answer ]] || fail 'status 2 and nothing on standard output'
+    complains 2 'lot compare-stores: none: No such file or directory' compare-stores none copy.lot "$quiet"
+    complains 2 'lot compare-stores: none: No such file or directory' compare-stores damaged.lot none "$quiet"
+    json 2 '{"error":"none: No such file or directory"}' compare-stores copy.lot none "$quiet"
 }

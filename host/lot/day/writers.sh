@@ -71,6 +71,8 @@ second_writer() {
     expect 0 1 count store.lot
     expect 0 "1 ${T[1]}" digest store.lot
     expect 0 'sound 1' audit store.lot
+    compares 0 equal '' compare-stores store.lot "$rules/store.1"
+    compares 1 'second shorter' '' compare-stores "$rules/store.2" store.lot
     expect 0 'element 1 of 1, 64 bytes' prove store.lot 1 -o proof
     expect 0 '0 to 1, 64 bytes' prove-growth store.lot 0 -o growth
     sed -n 2,3p lots.txt >&"$lines"
@@ -213,6 +215,9 @@ append_many_lines() {
     many=$((rate * 3 / 10 + 20))
     seq -f 'lot %.0f of a long day' "$many" >many.txt
     rm many.lot
+    expect 0 "log 7, room $many" init whole.lot --log 7 --room "$many"
+    capture append whole.lot --lines many.txt
+    store_is whole.lot "$many" "$many" many.txt
 }
 
 cut_appends() {
@@ -241,6 +246,11 @@ judge_append() {
     appended=$((appended + count))
     expect 0 "$count" count many.lot
     expect 0 "sound $count" audit many.lot
+    # whatever else was left there, the log is a beginning of the whole one
+    case $count in
+    "$many") compares 0 equal '' compare-stores many.lot whole.lot ;;
+    *) compares 1 'first shorter' '' compare-stores many.lot whole.lot ;;
+    esac
     expect 0 "$((count + 1)) $next next" append many.lot next
     expect 0 "sound $((count + 1))" audit many.lot
 }
