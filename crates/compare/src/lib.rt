@@ -65,8 +65,8 @@ pub fn compare(first: &[u8], second: &[u8]) -> Compared
     let Counted::Count(n) = counted else {
         return Compared::Damaged;
     };
-    let recounted = store::count(second);
-    let Counted::Count(m) = recounted else {
+    let second_counted = store::count(second);
+    let Counted::Count(m) = second_counted else {
         return Compared::Damaged;
     };
     if layout::log_of(first) != layout::log_of(second) {

@@ -2,7 +2,7 @@
 rule of rules.py.
 
 pairs.list has a pair a line, fields between tabs: STORE1 STORE2 STATUS ANSWER ASIDE. ASIDE is what stands behind
-`lot compare-stores: ` on standard error; it is empty if nothing does.
+`lot compare-stores: ` on standard error; it is empty if nothing does. `large` is a store of 1,300 lots, `lot 1` and on.
 """
 import random
 import sys
@@ -217,7 +217,9 @@ def main(lots):
     for make in (lengths, every_byte, several, states, headers, cuts, rooms, damages):
         make(log)
     log_numbers(log, entries)
-    large(rules.Log(figures.LOG, (b"lot %d" % j for j in range(1, 1301))))
+    lots = rules.Log(figures.LOG, (b"lot %d" % j for j in range(1, 1301)))
+    large(lots)
+    figures.put("large", lots.store(1300) + room(*[ZEROS] * 10))
     larger()
     lines = ("\t".join(map(str, (*pair, *owed))) for pair, owed in cases.items())
     figures.put("pairs.list", "".join(line + "\n" for line in lines).encode())

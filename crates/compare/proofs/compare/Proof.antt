@@ -27,9 +27,9 @@ first-counted : (c : tie.After-counted) → InOrder (now (c .before .before .bef
 first-counted c =
     in-order (now (c .before .before .before .before .before .args .first)) (c .before .before .count .result) (c .counted .given .0 .0) (c .before .before .count .ensures) (c .counted .given .1)
 
-second-counted : (c : tie.After-recounted) → InOrder (now (c .before .before .before .before .before .before .before .before .before .args .second)) (c .recounted .given .0 .0)
+second-counted : (c : tie.After-second-counted) → InOrder (now (c .before .before .before .before .before .before .before .before .before .args .second)) (c .second-counted .given .0 .0)
 second-counted c =
-    in-order (now (c .before .before .before .before .before .before .before .before .before .args .second)) (c .before .before .count2 .result) (c .recounted .given .0 .0) (c .before .before .count2 .ensures) (c .recounted .given .1)
+    in-order (now (c .before .before .before .before .before .before .before .before .before .args .second)) (c .before .before .count2 .result) (c .second-counted .given .0 .0) (c .before .before .count2 .ensures) (c .second-counted .given .1)
 
 -- what the rule answers of two stores in order
 module _ (s t : Bytes) (n m : Length) (k : InOrder s n) (l : InOrder t m) where
@@ -65,13 +65,13 @@ module _ (s t : Bytes) (n m : Length) (k : InOrder s n) (l : InOrder t m) where
 abbrev Scanned : tie.After-first-difference → Type 0
 Scanned c =
     let a = c .before .before .before .before .before .before .before .before .before .before .before .before .before .before .before .args in
-    Ruled (now (a .first)) (now (a .second)) (c .before .before .before .before .before .before .before .before .before .before .counted .given .0 .0) (c .before .before .before .before .before .before .recounted .given .0 .0) (first-counted (c .before .before .before .before .before .before .before .before .before .before)) (second-counted (c .before .before .before .before .before .before)) (c .before .least .result) (c .first-difference .result .element)
+    Ruled (now (a .first)) (now (a .second)) (c .before .before .before .before .before .before .before .before .before .before .counted .given .0 .0) (c .before .before .before .before .before .before .second-counted .given .0 .0) (first-counted (c .before .before .before .before .before .before .before .before .before .before)) (second-counted (c .before .before .before .before .before .before)) (c .before .least .result) (c .first-difference .result .element)
 
 scanned : (c : tie.After-first-difference) → Scanned c
 scanned c =
     let a = c .before .before .before .before .before .before .before .before .before .before .before .before .before .before .before .args in
     let one = sym (c .before .before .before .before .log-of .ensures) ∙ c .before .before .if1 .left ∙ c .before .before .before .log-of2 .ensures in
-    ruled (now (a .first)) (now (a .second)) (c .before .before .before .before .before .before .before .before .before .before .counted .given .0 .0) (c .before .before .before .before .before .before .recounted .given .0 .0) (first-counted (c .before .before .before .before .before .before .before .before .before .before)) (second-counted (c .before .before .before .before .before .before))
+    ruled (now (a .first)) (now (a .second)) (c .before .before .before .before .before .before .before .before .before .before .counted .given .0 .0) (c .before .before .before .before .before .before .second-counted .given .0 .0) (first-counted (c .before .before .before .before .before .before .before .before .before .before)) (second-counted (c .before .before .before .before .before .before))
     one (c .before .least .result) (c .first-difference .result .element) (c .before .least .ensures) (c .first-difference .ensures .0)
 
 count-requires : tie.Need-count-requires
@@ -92,8 +92,8 @@ returns c =
 count-requires-2 : tie.Need-count-requires-2
 count-requires-2 c κs = search needs
 
-enum-known-recounted : tie.Need-enum-known-recounted
-enum-known-recounted c = search needs
+enum-known-second-counted : tie.Need-enum-known-second-counted
+enum-known-second-counted c = search needs
 
 enum-told-2 : tie.Need-enum-told-2
 enum-told-2 c = search needs
@@ -114,7 +114,7 @@ log-of-requires-2 c κs = second-counted (c .before .before) .long
 returns-3 : tie.Need-returns-3
 returns-3 c =
     let a = c .before .before .before .before .before .before .before .before .before .before .before .before .before .args in
-    other (now (a .first)) (now (a .second)) (c .before .before .before .before .before .before .before .before .counted .given .0 .0) (c .before .before .before .before .recounted .given .0 .0) (first-counted (c .before .before .before .before .before .before .before .before)) (second-counted (c .before .before .before .before))
+    other (now (a .first)) (now (a .second)) (c .before .before .before .before .before .before .before .before .counted .given .0 .0) (c .before .before .before .before .second-counted .given .0 .0) (first-counted (c .before .before .before .before .before .before .before .before)) (second-counted (c .before .before .before .before))
     (λ e. c .if1 .taken (c .before .before .log-of .ensures ∙ e ∙ sym (c .before .log-of2 .ensures)))
 
 least-requires : tie.Need-least-requires
@@ -149,7 +149,7 @@ compare-spec =
     enum-told
     returns
     count-requires-2
-    enum-known-recounted
+    enum-known-second-counted
     enum-told-2
     returns-2
     log-of-requires
