@@ -84,7 +84,7 @@ loading_program() { # NAME SOURCE [CRATE..]
     linked_program "$@"
 }
 
-# Writes where the library of OpenSSL is that bench-hash times, as the C compiler finds it; nothing if it is nowhere.
+# Writes where the library of OpenSSL is that benchmarks time, as the C compiler finds it; nothing if it is nowhere.
 libcrypto() {
     local file
     file=$("$cc" -print-file-name=libcrypto.so.3 2>/dev/null) || return 0

@@ -1,170 +1,174 @@
-//! Times checking proofs of a log of 1,000 elements beside a plain Rust checker that does the same work
-//! (`plain_checker.rs`): the same checks in the same order on the same bytes, with the same answers. So
-//! they are compared first, on each proof and on it with one byte changed.
+//! Times checking proofs beside a plain Rust checker that does the same work (`host/plain`): the same
+//! checks in the same order on the same bytes, with the same answers. So they are compared first, on
+//! each proof and on it with one byte changed: bench-check OFF ON, which are two copies of OpenSSL's
+//! library.
 //!
-//! The 1,000 membership proofs; 1,000 advances by one element, each from the state that the one before
-//! handed back; and 1,000 advances to the end, from the state at each count before it. Both checkers
-//! take a held state as its bytes, and leave there the new one.
+//! Beside both stands the floor: the messages that the plain checker hashes, in its order and whole in
+//! memory, hashed alone by the proved hash; and the same by OpenSSL, with its processor extensions off
+//! and on. The floor is what a checker over that hash would take if all but the hashing cost
+//! nothing. What part of the time is blocks is counted by the time of a block in a long message.
+//!
+//! Each workload is a thousand proofs: every member of a log of 1,000; 1,000 advances there by one
+//! element, each from the state that the one before handed back; 1,000 advances to its end, from the
+//! state at each count before it; of a log of 1,000,000 members here and there, and the last 1,000;
+//! and 1,000 advances by 1,000 elements, going on. Both checkers take a held state as its bytes, and
+//! leave there the new one.
 //!
 //! Both are compiled for release and for the same processor (`host/env.sh`). Each proof is checked once
 //! in a round; no buffer is cleared between the calls.
 
-mod plain_checker;
+mod messages;
+mod openssl;
+mod table;
 mod timing;
+mod work;
 
-use lotlog::{Answer, Digest, Held, HELD_BYTES, PROOF_MOST};
-use second::hash::Sha256;
-use second::store::store_of;
+use std::fs;
+use std::marker::PhantomData;
+use std::process;
+
+use checker::Hash;
+use compare::calls::Checks;
+use compare::library::Proved;
+use lotlog::{Answer, Digest, Held};
+use messages::{blocks, Messages, Recorded};
+use openssl::OpenSsl;
+use second::store::Log;
+use table::{most, Row};
 use timing::way;
+use work::{entry, house, some_of, Claims, Steps, Work};
 
-const LOG: u64 = 1000;
+const PROOFS: u64 = 1_000;
+const SMALL: u64 = 1_000;
+const LARGE: u64 = 1_000_000;
+
 const ROUNDS: usize = 41;
 
-/// A call that builds a proof.
-type Build = fn(&[u8], u64, u64, &mut [u8]) -> Answer;
+/// The message by which the time of a block is taken: the longest that is hashed.
+static LONG: [u8; 65_536] = [0xA9; 65_536];
 
-/// A call that checks an advance.
-type Advance = fn(&mut Held, u64, &Digest, &[u8]) -> Answer;
+/// 02, A9: "within twice its time on 1,000 membership proofs from a 1,000-element log".
+const ASKED: f64 = 2.0;
 
-/// The log of the house.
-struct House {
-    entries: Vec<Vec<u8>>,
-    store: Vec<u8>,
-}
+/// The plain checker over a hash.
+struct Plain<H>(PhantomData<H>);
 
-impl House {
-    fn new() -> House {
-        let entries: Vec<Vec<u8>> =
-            (1..=LOG).map(|j| format!("lot {:06}, expiry 2028-05", j).into_bytes()).collect();
-        let store = store_of::<Sha256>(7, LOG, entries.iter().cloned());
-        House { entries, store }
+impl<H: Hash> Checks for Plain<H> {
+    #[inline]
+    fn check_membership(entry: &[u8], i: u64, n: u64, digest: &Digest, proof: &[u8]) -> Answer {
+        checker::check_membership::<H>(entry, i, n, digest, proof)
     }
 
-    fn digest(&self, n: u64) -> Digest {
-        let mut digest = [0; 32];
-        assert_eq!(lotlog::digest_at(&self.store, n, &mut digest), 0);
-        digest
-    }
-
-    fn proof(&self, build: Build, i: u64, n: u64) -> Vec<u8> {
-        let mut out = vec![0; PROOF_MOST];
-        let answer = build(&self.store, i, n, &mut out);
-        assert_eq!(answer.number, 0);
-        out.truncate(answer.beside[0] as usize);
-        out
-    }
-
-    /// The step from i to n, with the state from which it goes.
-    fn step(&self, i: u64, n: u64) -> Step {
-        let mut held = [0; HELD_BYTES];
-        assert_eq!(lotlog::held_at(&self.store, i, &mut held), 0);
-        let proof = self.proof(lotlog::build_advancement, i, n);
-        Step { held, n, digest: self.digest(n), proof }
+    #[inline]
+    fn check_advancement(held: &mut Held, n: u64, digest: &Digest, proof: &[u8]) -> Answer {
+        checker::check_advancement::<H>(held, n, digest, proof)
     }
 }
 
-/// An advance that a practice is sent.
-struct Step {
-    held: Held,
-    n: u64,
-    digest: Digest,
-    proof: Vec<u8>,
+fn proved(message: &[u8], digest: &mut Digest) {
+    assert_eq!(lotlog::hash(message, digest), 0);
 }
 
-impl Step {
-    /// Checks the step from a state, which becomes the new one.
-    fn check(&self, advance: Advance, held: &mut Held) {
-        assert_eq!(advance(held, self.n, &self.digest, &self.proof).number, 0);
-    }
-
-    /// The answer to the step with another proof, and the state that is left.
-    fn outcome(&self, advance: Advance, proof: &[u8]) -> (Answer, Held) {
-        let mut held = self.held;
-        (advance(&mut held, self.n, &self.digest, proof), held)
-    }
+/// Hashes each message alone.
+fn each(messages: &Messages, hash: impl Fn(&[u8], &mut Digest)) {
+    let mut digest = [0; 32];
+    messages.iter().for_each(|message| hash(message, &mut digest));
 }
 
-/// A proof, and the same with one byte changed, which differs from proof to proof.
-fn good_and_bad(proof: &[u8], number: usize) -> [Vec<u8>; 2] {
-    let mut changed = proof.to_vec();
-    changed[37 * number % proof.len()] ^= 1;
-    [proof.to_vec(), changed]
-}
-
-/// Times both ways and prints the line of the table; the ratio.
-fn row(name: &str, bytes: usize, proved: impl FnMut(), plain: impl FnMut()) -> f64 {
-    let [ours, plain] = timing::side_by_side(ROUNDS, 1, [way(proved), way(plain)]);
-    let (ratio, ours, plain) = (plain.ratio, ours.time / 1e6, plain.time / 1e6);
-    println!("{:<16} {:>9} {:>12.2} {:>12.2} {:>7.2}", name, bytes, ours, plain, ratio);
-    ratio
-}
-
-fn membership(house: &House) -> f64 {
-    let digest = house.digest(LOG);
-    let proofs: Vec<Vec<u8>> =
-        (1..=LOG).map(|i| house.proof(lotlog::build_membership, i, LOG)).collect();
-    let asked = || house.entries.iter().zip(&proofs).zip(1..=LOG);
-    for ((entry, proof), i) in asked() {
-        for proof in good_and_bad(proof, i as usize) {
-            let ours = lotlog::check_membership(entry, i, LOG, &digest, &proof);
-            let plain = plain_checker::check_membership(entry, i, LOG, &digest, &proof);
-            assert_eq!(ours, plain, "element {}", i);
-        }
-    }
-    let proved_all = || {
-        for ((entry, proof), i) in asked() {
-            assert_eq!(lotlog::check_membership(entry, i, LOG, &digest, proof).number, 0);
-        }
-    };
-    let plain_all = || {
-        for ((entry, proof), i) in asked() {
-            assert_eq!(plain_checker::check_membership(entry, i, LOG, &digest, proof).number, 0);
-        }
-    };
-    row("membership", proofs.iter().map(Vec::len).sum(), proved_all, plain_all)
-}
-
-/// Both checkers answer alike and leave the same state, on each step and on it with one byte changed.
-fn alike(steps: &[Step]) {
-    for (number, step) in steps.iter().enumerate() {
-        for proof in good_and_bad(&step.proof, number) {
-            let ours = step.outcome(lotlog::check_advancement, &proof);
-            let plain = step.outcome(plain_checker::check_advancement, &proof);
-            assert!(ours == plain, "to {}: {:?} and {:?}", step.n, ours.0, plain.0);
-        }
+/// Panics unless the hashes that are timed give the same digests.
+fn same_digests(messages: &Messages, [off, on]: &[OpenSsl; 2]) {
+    for message in messages.iter() {
+        let mut digests = [[0; 32]; 3];
+        proved(message, &mut digests[0]);
+        off.hash(message, &mut digests[1]);
+        on.hash(message, &mut digests[2]);
+        assert_eq!(digests, [plain::digest(message); 3]);
     }
 }
 
-/// Times both checkers on steps, all of which a function makes with a checker.
-fn advances(name: &str, steps: &[Step], make: fn(&[Step], Advance)) -> f64 {
-    alike(steps);
-    let bytes = steps.iter().map(|step| step.proof.len()).sum();
-    let proved_all = || make(steps, lotlog::check_advancement);
-    let plain_all = || make(steps, plain_checker::check_advancement);
-    row(name, bytes, proved_all, plain_all)
+/// Compares and times a workload.
+fn row(name: &'static str, work: &impl Work, openssl: &[OpenSsl; 2]) -> Row {
+    work.alike::<Proved, Plain<checker::Plain>>();
+    let messages = Messages::hashed_by(|| work.check::<Plain<Recorded>>());
+    same_digests(&messages, openssl);
+    let [off, on] = openssl;
+    // as many blocks in long messages as the work has, or a few more
+    let times = messages.blocks() / blocks(LONG.len()) + 1;
+    let ways = [
+        way(|| work.check::<Proved>()),
+        way(|| work.check::<Plain<checker::Plain>>()),
+        way(|| each(&messages, proved)),
+        way(|| each(&messages, |message, digest| off.hash(message, digest))),
+        way(|| each(&messages, |message, digest| on.hash(message, digest))),
+        way(|| (0..times).for_each(|_| proved(&LONG, &mut [0; 32]))),
+    ];
+    let [proved, plain, floor, off, on, long] = timing::side_by_side(ROUNDS, 1, ways);
+    let long_blocks = (times * blocks(LONG.len())) as f64;
+    Row {
+        name,
+        bytes: work.bytes(),
+        messages: messages.count(),
+        distinct: messages.distinct(),
+        blocks: messages.blocks(),
+        block: long.time / long_blocks,
+        share: messages.blocks() as f64 / long_blocks / long.ratio,
+        proved,
+        plain,
+        floor,
+        off,
+        on,
+    }
 }
 
-/// One after the other, from the state that is handed back.
-fn going_on(steps: &[Step], advance: Advance) {
-    let mut held = steps[0].held;
-    steps.iter().for_each(|step| step.check(advance, &mut held));
+fn rows(small: &Log, large: &Log, openssl: &[OpenSsl; 2]) -> [Row; 6] {
+    let to_the_end = Steps::of(small, (0..SMALL).map(|i| (i, SMALL)));
+    let spread = Claims::of(large, some_of(LARGE, PROOFS));
+    let last = Claims::of(large, LARGE - PROOFS + 1..=LARGE);
+    [
+        row("members of 1,000", &Claims::of(small, 1..=SMALL), openssl),
+        row("single steps", &Steps::by(small, 1), openssl),
+        row("steps to the end", &to_the_end, openssl),
+        row("members of 1,000,000", &spread, openssl),
+        row("one morning", &last, openssl),
+        row("1,000 mornings", &Steps::by(large, LARGE / PROOFS), openssl),
+    ]
 }
 
-/// Each from its own state.
-fn each(steps: &[Step], advance: Advance) {
-    steps.iter().for_each(|step| step.check(advance, &mut step.held.clone()));
+/// The processor, where the system tells its name.
+fn processor() -> Option<String> {
+    let told = fs::read_to_string("/proc/cpuinfo").ok()?;
+    let line = told.lines().find(|line| line.starts_with("model name"))?;
+    Some(line.split_once(':')?.1.trim().to_string())
+}
+
+/// What all is measured on and with.
+fn print_head(openssl: &OpenSsl) {
+    println!("{}", processor().unwrap_or_else(|| "a processor whose name is not told".to_string()));
+    println!("{}", openssl.words());
+    let [bytes, last] = [SMALL, LARGE].map(|j| entry(j).len());
+    println!("{} proofs each; entries of {} bytes, that of {} of {}", PROOFS, bytes, LARGE, last);
+    println!(
+        "floor: the same messages hashed alone; off, on: by OpenSSL, its extensions off and on"
+    );
 }
 
 fn main() {
-    let house = House::new();
-    println!("{} proofs each, entries of {} bytes", LOG, house.entries[0].len());
-    println!("{:<16} {:>9} {:>12} {:>12} {:>7}", "", "bytes", "proved ms", "plain ms", "ratio");
-    let single: Vec<Step> = (0..LOG).map(|i| house.step(i, i + 1)).collect();
-    let to_the_end: Vec<Step> = (0..LOG).map(|i| house.step(i, LOG)).collect();
-    let ratios = [
-        membership(&house),
-        advances("single steps", &single, going_on),
-        advances("steps to the end", &to_the_end, each),
-    ];
-    println!("at most {:.2} of plain Rust's time", ratios.into_iter().fold(0.0, f64::max));
+    let openssl = openssl::off_and_on();
+    print_head(&openssl[1]);
+    let [small, large] = [SMALL, LARGE].map(house);
+    let log = |store| Log::read(store).expect("a store in order");
+    let rows = rows(&log(&small), &log(&large), &openssl);
+    table::print(&rows);
+    let membership = rows[0].plain.ratio;
+    println!(
+        "membership at {:.2} of plain Rust's time where {} is asked; at most {:.2} of it in all; \
+         at most {:.2} of the floor",
+        membership,
+        ASKED,
+        most(&rows, |row| row.plain.ratio),
+        most(&rows, |row| row.floor.ratio)
+    );
+    if membership > ASKED {
+        process::exit(1);
+    }
 }

@@ -9,8 +9,6 @@
 mod openssl;
 mod timing;
 
-use std::env;
-
 use lotlog::Digest;
 use openssl::OpenSsl;
 use timing::way;
@@ -71,23 +69,9 @@ fn row(size: usize, off: &OpenSsl, on: &OpenSsl) -> [f64; WAYS] {
     times.map(|way| way.ratio)
 }
 
-/// What there is to be on.
-fn offered(extensions: &[&str]) -> String {
-    let known = openssl::EXTENSIONS.map(|(name, _)| name).join(" ");
-    let offered = match extensions {
-        [] => "none, so that on is the same code as off".to_string(),
-        some => some.join(" "),
-    };
-    format!("of {} the processor offers {}", known, offered)
-}
-
 fn main() {
-    let files: Vec<String> = env::args().skip(1).collect();
-    let [off, on] = <[String; 2]>::try_from(files).expect("two copies of OpenSSL's library");
-    let off = OpenSsl::load(&off, Some(openssl::OFF));
-    let on = OpenSsl::load(&on, None);
-    assert!(off.extensions().is_empty(), "extensions that are off: {:?}", off.extensions());
-    println!("{}; {}", on.release(), offered(&on.extensions()));
+    let [off, on] = openssl::off_and_on();
+    println!("{}", on.words());
     println!(
         "{:>6} {:>12} {:>12} {:>7} {:>12} {:>7} {:>12} {:>7}",
         "bytes", "proved ns", "plain ns", "ratio", "off ns", "ratio", "on ns", "ratio"

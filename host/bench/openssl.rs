@@ -18,11 +18,11 @@ const VARIABLE: &str = "OPENSSL_ia32cap";
 
 /// The value that leaves nothing but the code for every x86-64 processor. Behind `~` are bits to
 /// clear, here 41 and 60, for SSSE3 and AVX; `:0` clears all from 64 on, "all post-AVX extensions".
-pub const OFF: &str = "~0x1000020000000000:0";
+const OFF: &str = "~0x1000020000000000:0";
 
 /// The extensions by which the code for SHA-256 is chosen, and their bits, from the variable's
 /// manual page.
-pub const EXTENSIONS: [(&str, u32); 6] = [
+const EXTENSIONS: [(&str, u32); 6] = [
     ("SSSE3", 41),
     ("AVX", 60),
     ("BMI1", 64 + 3),
@@ -54,9 +54,20 @@ pub struct OpenSsl {
     version: unsafe extern "C" fn(c_int) -> *const c_char,
 }
 
+/// The library with its extensions off, and with all that there are, from the two copies of it that
+/// the program is given.
+pub fn off_and_on() -> [OpenSsl; 2] {
+    let files: Vec<String> = env::args().skip(1).collect();
+    let [off, on] = <[String; 2]>::try_from(files).expect("two copies of OpenSSL's library");
+    let off = OpenSsl::load(&off, Some(OFF));
+    let on = OpenSsl::load(&on, None);
+    assert!(off.extensions().is_empty(), "extensions that are off: {:?}", off.extensions());
+    [off, on]
+}
+
 impl OpenSsl {
     /// Loads a copy of the library under a value of the variable, or with all that there is.
-    pub fn load(file: &str, value: Option<&str>) -> OpenSsl {
+    fn load(file: &str, value: Option<&str>) -> OpenSsl {
         match value {
             Some(value) => env::set_var(VARIABLE, value),
             None => env::remove_var(VARIABLE),
@@ -89,13 +100,18 @@ impl OpenSsl {
         assert_eq!(done, 1);
     }
 
-    /// The release, as the library names it.
-    pub fn release(&self) -> String {
-        self.told(RELEASE)
+    /// The release, as the library names it, and which extensions there are to be on.
+    pub fn words(&self) -> String {
+        let known = EXTENSIONS.map(|(name, _)| name).join(" ");
+        let offered = match &self.extensions()[..] {
+            [] => "none, so that on is the same code as off".to_string(),
+            some => some.join(" "),
+        };
+        format!("{}; of {} the processor offers {}", self.told(RELEASE), known, offered)
     }
 
     /// The extensions of the table that this load goes by, as it tells itself.
-    pub fn extensions(&self) -> Vec<&'static str> {
+    fn extensions(&self) -> Vec<&'static str> {
         let told = self.told(PROCESSOR);
         let bits = bits(&told).unwrap_or_else(|| panic!("not understood: {}", told));
         EXTENSIONS.iter().filter(|(_, bit)| bits >> bit & 1 == 1).map(|(name, _)| *name).collect()

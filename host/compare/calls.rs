@@ -37,6 +37,12 @@ pub trait AdvanceCalls {
     fn check_advancement(held: &mut Held, n: u64, digest: &Digest, proof: &[u8]) -> Answer;
 }
 
+/// What a practice does with a proof, by the library or by another checker.
+pub trait Checks {
+    fn check_membership(entry: &[u8], i: u64, n: u64, digest: &Digest, proof: &[u8]) -> Answer;
+    fn check_advancement(held: &mut Held, n: u64, digest: &Digest, proof: &[u8]) -> Answer;
+}
+
 /// Held states in files.
 pub trait SavedCalls {
     fn held_write(held: &Held, out: &mut [u8]) -> Answer;

@@ -8,7 +8,8 @@
 //! itself, each of which a group must notice (`faulty`). Where a proof broke is also told beforehand,
 //! without the second program (`places`), and so is what comes of damage to a van's log (`sealed`) and
 //! where two stores differ (`copies`). Lengths that no store has are tried on logs that are made up
-//! (`made`).
+//! (`made`). The plain checker that the library is timed beside goes through the same groups in the
+//! place of the library's own checks (`plain`).
 //!
 //! A difference panics with the call and its arguments.
 
@@ -28,6 +29,7 @@ pub mod logs;
 pub mod made;
 pub mod member;
 pub mod places;
+pub mod plain;
 pub mod random;
 pub mod saved;
 pub mod sealed;

@@ -3,22 +3,39 @@
 //! The methods are `#[inline]` as those of `lotlog` are, so a program of one group links with a
 //! library that has that group's calls alone.
 
+use std::marker::PhantomData;
+
 use lotlog::{Answer, Digest, Held, Side};
 
-use crate::calls::{AdvanceCalls, CopyCalls, HashCalls, MemberCalls, SavedCalls};
+use crate::calls::{AdvanceCalls, Checks, CopyCalls, HashCalls, MemberCalls, SavedCalls};
 use crate::calls::{SealCalls, StoreCalls, TrieCalls};
 
-/// The proved library.
-pub enum Library {}
+/// The proved library; or the same with the two checks of another checker in the place of its own.
+pub struct Library<K = Proved>(PhantomData<K>);
 
-impl HashCalls for Library {
+/// The library's own checks.
+pub enum Proved {}
+
+impl Checks for Proved {
+    #[inline]
+    fn check_membership(entry: &[u8], i: u64, n: u64, digest: &Digest, proof: &[u8]) -> Answer {
+        lotlog::check_membership(entry, i, n, digest, proof)
+    }
+
+    #[inline]
+    fn check_advancement(held: &mut Held, n: u64, digest: &Digest, proof: &[u8]) -> Answer {
+        lotlog::check_advancement(held, n, digest, proof)
+    }
+}
+
+impl<K> HashCalls for Library<K> {
     #[inline]
     fn hash(message: &[u8], digest: &mut Digest) -> u64 {
         lotlog::hash(message, digest)
     }
 }
 
-impl StoreCalls for Library {
+impl<K> StoreCalls for Library<K> {
     #[inline]
     fn start(store: &mut [u8], log: u64) -> u64 {
         lotlog::start(store, log)
@@ -45,14 +62,14 @@ impl StoreCalls for Library {
     }
 }
 
-impl CopyCalls for Library {
+impl<K> CopyCalls for Library<K> {
     #[inline]
     fn compare(first: &[u8], second: &[u8]) -> Answer {
         lotlog::compare(first, second)
     }
 }
 
-impl MemberCalls for Library {
+impl<K: Checks> MemberCalls for Library<K> {
     #[inline]
     fn build_membership(store: &[u8], i: u64, n: u64, out: &mut [u8]) -> Answer {
         lotlog::build_membership(store, i, n, out)
@@ -60,7 +77,7 @@ impl MemberCalls for Library {
 
     #[inline]
     fn check_membership(entry: &[u8], i: u64, n: u64, digest: &Digest, proof: &[u8]) -> Answer {
-        lotlog::check_membership(entry, i, n, digest, proof)
+        K::check_membership(entry, i, n, digest, proof)
     }
 
     #[inline]
@@ -74,7 +91,7 @@ impl MemberCalls for Library {
     }
 }
 
-impl AdvanceCalls for Library {
+impl<K: Checks> AdvanceCalls for Library<K> {
     #[inline]
     fn held_at(store: &[u8], at: u64, held: &mut Held) -> u64 {
         lotlog::held_at(store, at, held)
@@ -92,11 +109,11 @@ impl AdvanceCalls for Library {
 
     #[inline]
     fn check_advancement(held: &mut Held, n: u64, digest: &Digest, proof: &[u8]) -> Answer {
-        lotlog::check_advancement(held, n, digest, proof)
+        K::check_advancement(held, n, digest, proof)
     }
 }
 
-impl SavedCalls for Library {
+impl<K> SavedCalls for Library<K> {
     #[inline]
     fn held_write(held: &Held, out: &mut [u8]) -> Answer {
         lotlog::held_write(held, out)
@@ -108,7 +125,7 @@ impl SavedCalls for Library {
     }
 }
 
-impl TrieCalls for Library {
+impl<K> TrieCalls for Library<K> {
     #[inline]
     fn handle(key: &[u8], handle: &mut Digest) -> u64 {
         lotlog::handle(key, handle)
@@ -151,7 +168,7 @@ impl TrieCalls for Library {
     }
 }
 
-impl SealCalls for Library {
+impl<K> SealCalls for Library<K> {
     #[inline]
     fn mac(key: &[u8], message: &[u8], mac: &mut Digest) -> u64 {
         lotlog::mac(key, message, mac)

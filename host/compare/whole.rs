@@ -18,6 +18,10 @@ use crate::member::Claim;
 use crate::random::Random;
 use crate::{ends, saved, sealed, trie};
 
+/// The seed that every run tries, and how many calls are made with a seed.
+pub const SEED: u64 = 5;
+pub const CALLS: u64 = 150_000;
+
 /// The lengths of the logs that the calls work on. They leave room for elements, or do not.
 const LOGS: [(u64, u64); 9] =
     [(0, 0), (0, 1), (1, 2), (7, 1), (8, 8), (40, 0), (100, 3), (1_000, 1), (4_500, 0)];

@@ -5,13 +5,10 @@ use std::env;
 
 use compare::{both::Both, library::Library, random, whole};
 
-const FIXED_SEED: u64 = 5;
-const CALLS: u64 = 150_000;
-
 fn run(seed: u64) {
     println!("seed {}", seed);
     let mut both = Both::<Library>::default();
-    whole::run(&mut both, seed, CALLS);
+    whole::run(&mut both, seed, whole::CALLS);
     println!("{} calls agree, seed {}", both.calls, seed);
 }
 
@@ -19,7 +16,7 @@ fn main() {
     match env::args().nth(1) {
         Some(seed) => run(seed.parse().expect("a seed is a number")),
         None => {
-            run(FIXED_SEED);
+            run(whole::SEED);
             run(random::fresh_seed());
         }
     }
