@@ -2,7 +2,7 @@
 -- and every export. A contract says that the answer, and what lent memory holds after the call, told in the terms of documents 01 and 02, are one function of what
 -- the call was given; `One told o` says that this leaves one answer. Each line cites the one law of rules, or the crate's own citation of it.
 use mathlib.Core.Path.{_≡_, sym, ap, ap₂, _∙_}
-use mathlib.Core.List.{[]}
+use mathlib.Core.List.{[], _++_}
 use Prim.Native.Nat.{ℕ}
 use Rattle.lists.specs.Bytes.{Bytes}
 use Rattle.sha256.specs.Stream.{begun, taken, finished, hashed}
@@ -69,6 +69,9 @@ lossless told same o x y ex ey = same x y (ex ∙ sym ey)
 
 pub sha256-hash : (m : Bytes) → OneOf (hashed m)
 sha256-hash m = one-of (hashed m)
+
+pub sha256-joined : (a b : Bytes) → OneOf (hashed (a ++ b))
+sha256-joined a b = one-of (hashed (a ++ b))
 
 pub hash-state-begin : OneOf begun
 hash-state-begin = one-of begun

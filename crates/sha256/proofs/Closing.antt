@@ -1,26 +1,21 @@
--- The padding of FIPS 180-4, as `HashState::closed` writes it into the block under way, and into one more where the count does not fit in.
-use mathlib.Core.Path.{_≡_, sym, ap, ap₂, _∙_}
-use mathlib.Core.List.{_∷_, _++_, append-assoc}
-use Prim.Native.Nat.{ℕ, suc, _+_, _-_, _*_, _%_, _≤_, _<_}
+-- The padding of FIPS 180-4, as `padded` writes it behind the rest of a message, and into one block more where the count does not fit in.
+use mathlib.Core.Path.{_≡_, refl, sym, ap, ap₂, _∙_}
+use mathlib.Core.List.{[], _∷_, _++_, append-assoc, append-nil}
+use Prim.Native.Nat.{ℕ, _+_, _-_, _*_, _/_, _%_, _≤_, _<_, zero-le}
+use native.Mathlib.Nat.{zero-add}
 use native.Mathlib.Omega.{arith}
-use lib.ListN.{length, take, set, replicate, length-append, length-replicate, replicate-append-replicate}
-use lib.Seq.{sets, length-sets}
+use lib.ListN.{length, take, drop, replicate, length-append, length-replicate, replicate-append-replicate, drop-of-length-le}
+use lib.Seq.{paste, take-all, take-append-seam, drop-append-seam}
 use Rattle.lists.specs.Bytes.{Bytes, be}
-use Rattle.lists.specs.Laws.{take-replicate, sets-end, sets-append, sets-over}
-use Rattle.fips.specs.Sha256.{padding, compress}
-use Rattle.sha256.specs.Stream.{emptied, absorbed}
-use Rattle.sha256.specs.Runs.{zeros, absorbed-append, fills}
+use Rattle.lists.specs.Pasting.{paste-all, paste-more}
+use Rattle.fips.specs.Sha256.{padding, compress, chained}
+use Rattle.sha256.specs.Runs.{zeros}
+use Rattle.sha256.specs.Ending.{ended}
 use Rattle.fips.specs.declared.Words.{Words}
-use Rattle.sha256.specs.declared.HashState.{HashState}
 
 -- the bit 1 and n zero bytes
 abbrev mark : ℕ → Bytes
 mark n = 0x80 ∷ replicate n 0
-
-mark-part : (f : ℕ) → f < 64 → take (64 - f - 0) (mark 63) ≡ mark (63 - f)
-mark-part f h =
-    let n : 64 - f - 0 ≡ suc (63 - f) = omega arith in
-    rw (n, take-replicate (63 - f) 63 0 (omega arith))
 
 mark-more : (a b : ℕ) → mark (a + b) ≡ mark a ++ replicate b 0
 mark-more a b = ap {B = Bytes} (λ l. 0x80 ∷ l) (sym (replicate-append-replicate a b 0))
@@ -28,66 +23,117 @@ mark-more a b = ap {B = Bytes} (λ l. 0x80 ∷ l) (sym (replicate-append-replica
 mark-length : (n : ℕ) → length (mark n) ≡ n + 1
 mark-length n = let l = length-replicate {A = ℕ} n 0 in omega arith
 
--- the count takes the last eight bytes of the marked block
-counted : (b count : Bytes) (f : ℕ) → f < 56 → length b ≡ 64 → length count ≡ 8
-    → sets (sets b f (mark (63 - f))) 56 count ≡ sets b f (mark (55 - f) ++ count)
-counted b count f h lb lc =
-    let n : 63 - f ≡ (55 - f) + 8 = omega arith in
-    let l = mark-length (55 - f) in
-    let lx = length-sets b f (mark (55 - f)) in
-    let k : f + length (mark (55 - f)) ≡ 56 = omega arith in
-    let more : sets b f (mark (63 - f)) ≡ sets (sets b f (mark (55 - f))) 56 (replicate 8 0) =
-    ap (sets b f) (ap mark n ∙ mark-more (55 - f) 8) ∙ sets-append (mark (55 - f)) (replicate 8 0) b f
-    ∙ ap (λ (i : ℕ). sets (sets b f (mark (55 - f))) i (replicate 8 0)) k in
-    ap (λ (x : Bytes). sets x 56 count) more
-    ∙ sets-over (sets b f (mark (55 - f))) (replicate 8 0) count 56 (omega arith) lc
-    ∙ ap (λ (i : ℕ). sets (sets b f (mark (55 - f))) i count) (sym k)
-    ∙ sym (sets-append (mark (55 - f)) count b f)
+take-at : (a b : Bytes) (n : ℕ) → length a ≡ n → take n (a ++ b) ≡ a
+take-at a b n l = ap (λ (k : ℕ). take k (a ++ b)) (sym l) ∙ take-append-seam a b
 
-module _ (s : HashState) (e : s .fill ≡ s .total % 64) (l : length (s .bytes) ≡ 64) where
-  padding-is : (z : ℕ) → (119 - s .fill) % 64 ≡ z → padding (s .total) ≡ mark z ++ be 8 (s .total * 8)
+drop-at : (a b : Bytes) (n : ℕ) → length a ≡ n → drop n (a ++ b) ≡ b
+drop-at a b n l = ap (λ (k : ℕ). drop k (a ++ b)) (sym l) ∙ drop-append-seam a b
+
+drop-zeros : (k n : ℕ) → k ≤ n → drop {A = ℕ} k (replicate n 0) ≡ replicate (n - k) 0
+drop-zeros k n h =
+    let e : n ≡ k + (n - k) = omega arith in
+    ap (λ (i : ℕ). drop {A = ℕ} k (replicate i 0)) e
+    ∙ ap (drop k) (sym (replicate-append-replicate k (n - k) 0))
+    ∙ drop-at (replicate k 0) (replicate (n - k) 0) k (length-replicate k 0)
+
+-- bytes at the front of a block of zeros
+front : (x : Bytes) (k : ℕ) → length x ≡ k → k ≤ 64 → paste zeros 0 x k ≡ x ++ replicate (64 - k) 0
+front x k l h =
+    let e : 64 - (0 + k) ≡ 64 - k = omega arith in
+    paste-all zeros x 0 k l ∙ ap (λ (b : Bytes). x ++ b) (drop-zeros (0 + k) 64 (omega arith) ∙ ap (λ (i : ℕ). replicate i 0) e)
+
+module _ (rest : Bytes) where
+  abbrev f : ℕ
+  f = length rest
+
+  -- the mark behind them
+  abbrev marked : Bytes
+  marked = paste (paste zeros 0 rest f) f (0x80 ∷ []) 1
+
+  marked-is : f < 64 → marked ≡ rest ++ mark (63 - f)
+  marked-is h =
+      let e : 64 - (f + 1) ≡ 63 - f = omega arith in
+      ap (λ (n : ℕ). paste (paste zeros 0 rest f) n (0x80 ∷ []) 1) (sym (zero-add f))
+      ∙ paste-more zeros rest (0x80 ∷ []) 0 f 1 refl refl zero-le
+      ∙ front (rest ++ (0x80 ∷ [])) (f + 1) (length-append rest (0x80 ∷ [])) (omega arith)
+      ∙ append-assoc rest (0x80 ∷ []) (replicate (64 - (f + 1)) 0)
+      ∙ ap (λ (n : ℕ). rest ++ mark n) e
+
+  module _ (count : Bytes) (lc : length count ≡ 8) where
+    -- the count takes the last eight bytes of the marked block
+    counted : f < 56 → paste marked 56 count 8 ≡ rest ++ (mark (55 - f) ++ count)
+    counted h =
+        let n : 63 - f ≡ (55 - f) + 8 = omega arith in
+        let y : Bytes = rest ++ mark (55 - f) in
+        let ly : length y ≡ 56 = length-append rest (mark (55 - f)) ∙ omega (arith, mark-length (55 - f)) in
+        let whole : marked ≡ y ++ replicate 8 0 =
+        marked-is (omega arith) ∙ ap (λ (i : ℕ). rest ++ mark i) n ∙ ap (λ (b : Bytes). rest ++ b) (mark-more (55 - f) 8) ∙ sym (append-assoc rest (mark (55 - f)) (replicate 8 0)) in
+        let l8 = length-append y (replicate 8 0) in
+        ap (λ (b : Bytes). paste b 56 count 8) whole
+        ∙ paste-all (y ++ replicate 8 0) count 56 8 lc
+        ∙ ap₂ (λ (a b : Bytes). a ++ count ++ b) (take-at y (replicate 8 0) 56 ly) (drop-of-length-le (y ++ replicate 8 0) {i = 56 + 8} (omega arith))
+        ∙ append-nil (y ++ count)
+        ∙ append-assoc rest (mark (55 - f)) count
+
+    -- a block of zeros with the count at its end
+    last-is : paste zeros 56 count 8 ≡ replicate 56 0 ++ count
+    last-is = paste-all zeros count 56 8 lc ∙ append-nil (replicate 56 0 ++ count)
+
+-- one block, and two
+one-block : (w : Words) (b : Bytes) → length b ≡ 64 → compress w b ≡ chained w (length b / 64) b
+unfolding chained
+one-block w b l = rw l (ap (compress w) (sym (take-all 64 b (omega arith))))
+
+two-blocks : (w : Words) (a b : Bytes) → length a ≡ 64 → length b ≡ 64 → compress (compress w a) b ≡ chained w (length (a ++ b) / 64) (a ++ b)
+unfolding chained
+two-blocks w a b la lb =
+    let l : length (a ++ b) ≡ 128 = length-append a b ∙ omega arith in
+    rw l (ap₂ (λ (x y : Bytes). compress (compress w x) y)
+    (sym (take-at a b 64 la))
+    (sym (ap (take 64) (drop-at a b 64 la) ∙ take-all 64 b (omega arith))))
+
+module _ (w r : Words) (rest count x y : Bytes) (n : ℕ) (e : length rest ≡ n % 64) (ec : count ≡ be 8 (n * 8))
+    (ex : x ≡ paste zeros 0 rest (length rest)) (ey : y ≡ paste x (length rest) (0x80 ∷ []) 1) where
+  padding-is : (z : ℕ) → (119 - length rest) % 64 ≡ z → padding n ≡ mark z ++ count
   unfolding padding
-  padding-is z h = rw (← e, h)
+  padding-is z h = rw (← e, h, ec)
 
-  -- x is the block with the mark, y with the count too, and w the hash value after it
-  pub closed-short : (x y count : Bytes) (w : Words) → s .fill < 56 → count ≡ be 8 (s .total * 8)
-      → x ≡ sets (s .bytes) (s .fill) (take (64 - s .fill - 0) (mark 63))
-      → y ≡ sets x 56 count → w ≡ compress (s .words) y → w ≡ absorbed s (padding (s .total)) .words
-  closed-short x y count w h ec ex ey ew =
-      let f : ℕ = s .fill in
-      let lc : length count ≡ 8 = ap length ec in
-      let lp = mark-length (55 - f) in
-      let lpc = length-append (mark (55 - f)) count in
-      let y-is : y ≡ sets (s .bytes) f (mark (55 - f) ++ count) =
-      ey ∙ ap (λ (b : Bytes). sets b 56 count) (ex ∙ ap (sets (s .bytes) f) (mark-part f (omega arith))) ∙ counted (s .bytes) count f h l lc in
-      let pad : padding (s .total) ≡ mark (55 - f) ++ count =
-      padding-is (55 - f) (omega arith) ∙ ap (λ (b : Bytes). mark (55 - f) ++ b) (sym ec) in
-      ew
-      ∙ ap (compress (s .words)) y-is
-      ∙ sym (ap (λ (u : HashState). u .words) (ap (absorbed s) pad ∙ fills (mark (55 - f) ++ count) s (omega arith) (omega arith)))
+  lc : length count ≡ 8
+  lc = ap length ec
 
-  -- x is the block with the mark, y the one more with the count, v and w the hash values after them
-  pub closed-long : (x y count : Bytes) (v w : Words) → s .fill < 64 → 56 ≤ s .fill → count ≡ be 8 (s .total * 8)
-      → x ≡ sets (s .bytes) (s .fill) (take (64 - s .fill - 0) (mark 63))
-      → y ≡ sets zeros 56 count → v ≡ compress (s .words) x → w ≡ compress v y → w ≡ absorbed s (padding (s .total)) .words
-  closed-long x y count v w g h ec ex ey ev ew =
-      let f : ℕ = s .fill in
-      let p : Bytes = mark (63 - f) in
-      let q : Bytes = replicate 56 0 ++ count in
-      let lc : length count ≡ 8 = ap length ec in
-      let lp = mark-length (63 - f) in
-      let lq : length q ≡ 64 = length-append (replicate 56 0) count ∙ omega arith in
-      let pad : padding (s .total) ≡ p ++ q =
-      padding-is ((63 - f) + 56) (omega arith)
-      ∙ ap₂ (λ (a b : Bytes). a ++ b) (mark-more (63 - f) 56) (sym ec)
-      ∙ append-assoc p (replicate 56 0) count in
-      let x-is : x ≡ sets (s .bytes) f p = ex ∙ ap (sets (s .bytes) f) (mark-part f g) in
-      let y-is : y ≡ sets zeros 0 q = ey ∙ sets-end zeros count 56 (omega arith) ∙ sym (sets-end zeros q 0 (omega arith)) in
-      let v-is : v ≡ compress (s .words) (sets (s .bytes) f p) = ev ∙ ap (compress (s .words)) x-is in
-      let first : absorbed s p ≡ emptied v (s .total + length p) =
-      fills p s (omega arith) (omega arith) ∙ ap (λ (u : Words). emptied u (s .total + length p)) (sym v-is) in
-      ew
-      ∙ ap (compress v) y-is
-      ∙ sym (ap (λ (u : HashState). u .words)
-      (ap (absorbed s) pad ∙ absorbed-append s p q ∙ ap (λ (u : HashState). absorbed u q) first
-      ∙ fills q (emptied v (s .total + length p)) (omega arith) (omega arith)))
+  block-is : y ≡ marked rest
+  block-is = ey ∙ ap (λ (b : Bytes). paste b (length rest) (0x80 ∷ []) 1) ex
+
+  -- z is the block with mark and count, and r the hash value after it
+  pub padded-short : (z : Bytes) → length rest < 56 → z ≡ paste y 56 count 8 → r ≡ compress w z → r ≡ ended w rest n
+  unfolding ended
+  padded-short z h ez er =
+      let f : ℕ = length rest in
+      let z-is : z ≡ rest ++ padding n =
+      ez
+      ∙ ap (λ (b : Bytes). paste b 56 count 8) block-is
+      ∙ counted rest count lc h
+      ∙ ap (λ (b : Bytes). rest ++ b) (sym (padding-is (55 - f) (omega arith))) in
+      let lz : length (rest ++ padding n) ≡ 64 =
+      ap (λ (b : Bytes). length (rest ++ b)) (padding-is (55 - f) (omega arith))
+      ∙ length-append rest (mark (55 - f) ++ count)
+      ∙ omega (arith, length-append (mark (55 - f)) count, mark-length (55 - f), lc) in
+      er ∙ ap (compress w) z-is ∙ one-block w (rest ++ padding n) lz
+
+  -- z is the block behind that with the mark, with the count, and v and r the hash values after them
+  pub padded-long : (z : Bytes) (v : Words) → 56 ≤ length rest → length rest < 64 → z ≡ paste zeros 56 count 8 → v ≡ compress w y → r ≡ compress v z → r ≡ ended w rest n
+  unfolding ended
+  padded-long z v h g ez ev er =
+      let f : ℕ = length rest in
+      let a : Bytes = rest ++ mark (63 - f) in
+      let b : Bytes = replicate 56 0 ++ count in
+      let la : length a ≡ 64 = length-append rest (mark (63 - f)) ∙ omega (arith, mark-length (63 - f)) in
+      let lb : length b ≡ 64 = length-append (replicate 56 0) count ∙ omega (arith, lc) in
+      let whole : rest ++ padding n ≡ a ++ b =
+      ap (λ (p : Bytes). rest ++ p)
+      (padding-is ((63 - f) + 56) (omega arith) ∙ ap (λ (p : Bytes). p ++ count) (mark-more (63 - f) 56) ∙ append-assoc (mark (63 - f)) (replicate 56 0) count)
+      ∙ sym (append-assoc rest (mark (63 - f)) b) in
+      er
+      ∙ ap₂ (λ (u : Words) (c : Bytes). compress u c) (ev ∙ ap (compress w) (block-is ∙ marked-is rest g)) (ez ∙ last-is rest count lc)
+      ∙ two-blocks w a b la lb
+      ∙ ap (λ (c : Bytes). chained w (length c / 64) c) (sym whole)

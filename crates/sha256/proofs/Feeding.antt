@@ -1,14 +1,18 @@
 -- Steps of the functions that feed bytes to a state, on plain numbers and lists.
-use mathlib.Core.Path.{_≡_, sym, _∙_}
-use Prim.Native.Nat.{ℕ, suc, _+_, _-_, _*_, _/_, _%_, _≤_, _<_}
+use mathlib.Core.Path.{_≡_, refl, sym, ap, ap₂, _∙_}
+use mathlib.Core.List.{_++_, append-assoc}
+use Prim.Native.Nat.{ℕ, suc, _+_, _-_, _*_, _/_, _%_, _≤_, _<_, zero-le}
+use native.Mathlib.Nat.{zero-add}
 use native.Mathlib.Omega.{arith}
-use lib.ListN.{length, take, drop, length-drop}
-use lib.Seq.{sets, take-all}
+use lib.ListN.{length, take, drop, length-append, length-drop, take-append-drop}
+use lib.Seq.{sets, paste, take-all, length-take-le}
 use Rattle.lists.specs.Bytes.{Bytes}
 use Rattle.lists.specs.Laws.{sets-end}
+use Rattle.lists.specs.Pasting.{paste-more, paste-exact, take-two}
 use Rattle.fips.specs.Sha256.{compress, chained}
 use Rattle.sha256.specs.Stream.{emptied, absorbed}
 use Rattle.sha256.specs.Runs.{stateOf, zeros, within, run, over}
+use Rattle.sha256.specs.Ending.{ended, ended-block, ended-after, ended-whole}
 use Rattle.fips.specs.declared.Words.{Words}
 use Rattle.sha256.specs.declared.HashState.{HashState}
 
@@ -57,3 +61,56 @@ pub fed-over : (s r : HashState) (m : Bytes) (w : Words) → s .fill < 64 → 64
 fed-over s r m w f h ew er =
     let k : 64 - s .fill - 0 ≡ 64 - s .fill = omega arith in
     er ∙ rw (rest-part m (64 - s .fill) h, ew, k) (sym (over m s (64 - s .fill) f (omega arith) h))
+
+-- from the front of a block: v after the whole blocks of a, and r after what is left of it, and b
+pub ended-rest : (w v r : Words) (a b : Bytes) (n : ℕ) → v ≡ chained w (length a / 64) a
+    → r ≡ ended v (take (length a - (length a - length a % 64)) (drop (length a - length a % 64) a) ++ b) n
+    → r ≡ ended w (a ++ b) n
+ended-rest w v r a b n ev er =
+    let at : length a - length a % 64 ≡ 64 * (length a / 64) = omega arith in
+    er ∙ rw (ev, rest-part a (length a - length a % 64) (omega arith), at) (sym (ended-after w a b n))
+
+pub ended-run : (w v r : Words) (m : Bytes) (n : ℕ) → v ≡ chained w (length m / 64) m
+    → r ≡ ended v (take (length m - (length m - length m % 64)) (drop (length m - length m % 64) m)) n
+    → r ≡ ended w m n
+ended-run w v r m n ev er =
+    let at : length m - length m % 64 ≡ 64 * (length m / 64) = omega arith in
+    er ∙ rw (ev, rest-part m (length m - length m % 64) (omega arith), at) (sym (ended-whole w m n))
+
+-- two strings in one block: x with the first, y with both
+module _ (w r : Words) (rest m x y : Bytes) (n : ℕ) (ex : x ≡ paste zeros 0 rest (length rest)) where
+  -- they leave it unfilled
+  pub ended-within : length rest + length m ≤ 64 → y ≡ paste x (length rest) m (length m)
+      → r ≡ ended w (take (length rest + length m - 0) y) n → r ≡ ended w (rest ++ m) n
+  ended-within h ey er =
+      let k : length rest + length m - 0 ≡ length rest + length m = omega arith in
+      er
+      ∙ ap (λ (b : Bytes). ended w b n)
+      (ap (λ (i : ℕ). take i y) k
+      ∙ ap (take (length rest + length m)) (ey ∙ ap (λ (b : Bytes). paste b (length rest) m (length m)) ex)
+      ∙ take-two zeros rest m (length rest) (length m) refl refl h)
+
+  -- they fill it and go on: v after the block
+  pub ended-over : (v : Words) → length rest < 64 → 64 - length rest ≤ length m
+      → y ≡ paste x (length rest) (take (64 - length rest - 0) m) (64 - length rest)
+      → v ≡ compress w y → r ≡ ended v (take (length m - (64 - length rest)) (drop (64 - length rest) m)) n → r ≡ ended w (rest ++ m) n
+  ended-over v g h ey ev er =
+      let f : ℕ = length rest in
+      let room : ℕ = 64 - f in
+      let k : 64 - f - 0 ≡ room = omega arith in
+      let lt : length (take room m) ≡ room = length-take-le room m h in
+      let la : length (rest ++ take room m) ≡ 64 = length-append rest (take room m) ∙ omega arith in
+      let sum : f + room ≡ 64 = omega arith in
+      let block : y ≡ rest ++ take room m =
+      ey
+      ∙ ap (λ (b : Bytes). paste b f (take (64 - f - 0) m) room) ex
+      ∙ ap₂ (λ (i j : ℕ). paste (paste zeros 0 rest f) i (take j m) room) (sym (zero-add f)) k
+      ∙ paste-more zeros rest (take room m) 0 f room refl lt zero-le
+      ∙ ap (paste zeros 0 (rest ++ take room m)) sum
+      ∙ paste-exact zeros (rest ++ take room m) 64 refl la in
+      let whole : (rest ++ take room m) ++ drop room m ≡ rest ++ m =
+      append-assoc rest (take room m) (drop room m) ∙ ap (λ (b : Bytes). rest ++ b) (take-append-drop room m) in
+      er
+      ∙ ap₂ (λ (u : Words) (b : Bytes). ended u b n) (ev ∙ ap (compress w) block) (rest-part m room h)
+      ∙ sym (ended-block w (rest ++ take room m) (drop room m) n la)
+      ∙ ap (λ (b : Bytes). ended w b n) whole
