@@ -7,13 +7,13 @@ use native.Mathlib.Decide.{decLt}
 use native.Mathlib.Numerals.{add-one}
 use native.Mathlib.Omega.{arith}
 use borrow.Author.Tests.{lt-ltb, le-ltb}
-use lib.ListN.{length, getD, take, drop, set, length-set, length-append, List·getD-append}
+use lib.ListN.{length, getD, take, set, length-set, length-append, List·getD-append}
 use lib.Seq.{getD-append-seam, getD-set-same, getD-set-other}
 use Rattle.lists.specs.Bytes.{Bytes}
 use Rattle.lists.specs.Laws.{take-stored, getD-known, getD-part}
-use Rattle.fips.specs.Sha256.{K, word, mix, next, schedule, round, rounds, plus, compress}
+use Rattle.fips.specs.Sha256.{K, word, mix, next, schedule, rounds, plus, compress}
 use Rattle.fips.specs.declared.Words.{Words}
-use Rattle.block.specs.Places.{wordAt, Ready, Replaced, turned}
+use Rattle.block.specs.Places.{wordAt, Ready, Replaced, row, turned, Turned}
 
 length-schedule : (n : ℕ) (m : Bytes) → length (schedule n m) ≡ n
 unfolding schedule
@@ -102,32 +102,41 @@ module _ (i x : ℕ) (w : List ℕ) (hi : i < 16) (l : length w ≡ 16)
       record {
         size = simp length-set l;
         ready = λ g m r. record { size = simp length-set l; words = λ j a b. after g m r j a b (decLt j (16 * g + i + 16)) };
+        stays = λ p h. getD-set-other w i p x 0 (λ q. omega arith);
       }
 
--- the sixteen rounds from 16 * g on, and the words of the sixteen after them
-module _ (g : ℕ) (m : Bytes) (w : List ℕ) (h : g < 4) (r : Ready (16 * g) m w) where
+-- the working words before round 16 * g, and the words of the sixteen rounds from there on
+pub record Reached (g : ℕ) (m : Bytes) (s : Words) (w : List ℕ) (v : Words) : Type 0 where
+  pub rounded : v ≡ rounds (16 * g) (schedule 64 m) s
+  pub ready : Ready (16 * g) m w
+
+module _ (g : ℕ) (m : Bytes) (s : Words) {w : List ℕ} {v : Words} (h : g < 4) (r : Reached g m s w v) where
   used : (n : ℕ) → n < 16 → getD w n 0 ≡ getD (schedule 64 m) (16 * g + n) 0
   used n k =
       let place : (16 * g + n) % 16 ≡ n = omega arith in
       ap (λ (p : ℕ). getD w p 0) (sym place)
-      ∙ r .words (16 * g + n) (omega arith) (omega arith)
+      ∙ r .ready .words (16 * g + n) (omega arith) (omega arith)
       ∙ sym (word-of 64 (16 * g + n) m (omega arith))
 
-  next-turn : 16 * g + 16 ≡ 16 * (g + 1)
-  next-turn = omega arith
+  next-row : 16 * g + 16 ≡ 16 * (g + 1)
+  next-row = omega arith
 
-  module _ (s v : Words) (e : v ≡ rounds (16 * g) (schedule 64 m) s) where
-    turns : (n : ℕ) → n ≤ 16 → turned n (take 16 (drop (16 * g) K)) w v ≡ rounds (16 * g + n) (schedule 64 m) s
-    unfolding turned rounds
-    turns zero k = rw add-zero e
-    turns (suc n) k = rw add-suc (cc (getD-part 16 (16 * g) n K (omega arith), used n (omega arith), turns n (omega arith)))
+  turns : (n : ℕ) → n ≤ 16 → turned n (row g) w v ≡ rounds (16 * g + n) (schedule 64 m) s
+  unfolding turned rounds
+  turns zero k = rw add-zero (r .rounded)
+  turns (suc n) k = rw add-suc (cc (getD-part 16 (16 * g) n K (omega arith), used n (omega arith), turns n (omega arith)))
 
-    pub sixteen : (k : List ℕ) (u : Words) → k ≡ take 16 (drop (16 * g) K) → u ≡ turned 16 k w v → u ≡ rounds (16 * (g + 1)) (schedule 64 m) s
-    sixteen k u ek eu = eu ∙ rw (ek, ← next-turn) (turns 16 (omega arith))
+  pub sixteen : {u : Words} → u ≡ turned 16 (row g) w v → u ≡ rounds (16 * (g + 1)) (schedule 64 m) s
+  sixteen e = e ∙ rw (← next-row) (turns 16 (omega arith))
 
-  pub next-ready : (v : List ℕ) → Replaced 0 16 w v → Ready (16 * (g + 1)) m v
-  next-ready v p = rw (← next-turn) (p .ready g m (rw add-zero r))
+  pub reached-next : {x : List ℕ} {u : Words} → Turned 16 (row g) w v x u → Reached (g + 1) m s x u
+  reached-next t = record { rounded = sixteen (t .rounds); ready = rw (← next-row) (t .words .ready g m (rw add-zero (r .ready))) }
 
-pub compressed : (s v r : Words) (m : Bytes) (g : ℕ) → g ≡ 4 → v ≡ rounds (16 * g) (schedule 64 m) s → r ≡ plus s v → r ≡ compress s m
+-- the rounds begin at the hash value before the block, and it is added to what they lead to
+pub reached-first : (m : Bytes) (s : Words) {w : List ℕ} → Ready 0 m w → Reached 0 m s w s
+unfolding rounds
+reached-first m s h = record { rounded = refl; ready = h }
+
+pub compressed : (m : Bytes) (s : Words) {v r : Words} → v ≡ rounds 64 (schedule 64 m) s → r ≡ plus s v → r ≡ compress s m
 unfolding compress
-compressed s v r m g eg ev er = er ∙ ap (plus s) (ev ∙ rw eg)
+compressed m s e f = f ∙ ap (plus s) e

@@ -1,89 +1,12 @@
 // One block of a message: FIPS 180-4's functions, constants, schedule and rounds, up to the next hash value.
-// Of the schedule sixteen words are kept: sixteen rounds use them, and then each is replaced by the word sixteen later.
+// Of the schedule sixteen words are kept: each is replaced by the word sixteen later as soon as its round has used it.
 ghost use mathlib.Core.Path.{_≡_};
 ghost use Prim.Native.Nat.{_+_, _*_, _%_, _<_, _≤_};
-ghost use lib.ListN.{length, getD, take, drop};
+ghost use lib.ListN.{length, getD};
 ghost use Rattle.fips.specs.Sha256 as Fips;
-ghost use Rattle.block.specs.Places.{Ready, Replaced, turned};
+ghost use Rattle.block.specs.Places.{Ready, Replaced, Turned, row, turned};
 use fips::Words;
 use std::num::wrapping_add_u32;
-
-// FIPS 180-4, 4.2.2: the constants of the sixty-four rounds, sixteen at a time.
-const K0: [u32; 16] = [
-    0x428a2f98,
-    0x71374491,
-    0xb5c0fbcf,
-    0xe9b5dba5,
-    0x3956c25b,
-    0x59f111f1,
-    0x923f82a4,
-    0xab1c5ed5,
-    0xd807aa98,
-    0x12835b01,
-    0x243185be,
-    0x550c7dc3,
-    0x72be5d74,
-    0x80deb1fe,
-    0x9bdc06a7,
-    0xc19bf174,
-];
-
-const K1: [u32; 16] = [
-    0xe49b69c1,
-    0xefbe4786,
-    0x0fc19dc6,
-    0x240ca1cc,
-    0x2de92c6f,
-    0x4a7484aa,
-    0x5cb0a9dc,
-    0x76f988da,
-    0x983e5152,
-    0xa831c66d,
-    0xb00327c8,
-    0xbf597fc7,
-    0xc6e00bf3,
-    0xd5a79147,
-    0x06ca6351,
-    0x14292967,
-];
-
-const K2: [u32; 16] = [
-    0x27b70a85,
-    0x2e1b2138,
-    0x4d2c6dfc,
-    0x53380d13,
-    0x650a7354,
-    0x766a0abb,
-    0x81c2c92e,
-    0x92722c85,
-    0xa2bfe8a1,
-    0xa81a664b,
-    0xc24b8b70,
-    0xc76c51a3,
-    0xd192e819,
-    0xd6990624,
-    0xf40e3585,
-    0x106aa070,
-];
-
-const K3: [u32; 16] = [
-    0x19a4c116,
-    0x1e376c08,
-    0x2748774c,
-    0x34b0bcb5,
-    0x391c0cb3,
-    0x4ed8aa4a,
-    0x5b9cca4f,
-    0x682e6ff3,
-    0x748f82ee,
-    0x78a5636f,
-    0x84c87814,
-    0x8cc70208,
-    0x90befffa,
-    0xa4506ceb,
-    0xbef9a3f7,
-    0xc67178f2,
-];
 
 fn big0(x: u32) -> u32
     ensures { λ r. ⌜ r ≡ Fips.Σ0 x ⌝ }
@@ -109,16 +32,18 @@ fn small1(x: u32) -> u32
     ((x >> 17) | (x << 15)) ^ ((x >> 19) | (x << 13)) ^ (x >> 10)
 }
 
+// Where x has a bit y's, else z's: by an operation less than as FIPS writes it.
 fn ch(x: u32, y: u32, z: u32) -> u32
     ensures { λ r. ⌜ r ≡ Fips.ch x y z ⌝ }
 {
-    (x & y) ^ (!x & z)
+    ((y ^ z) & x) ^ z
 }
 
+// The bits that two of the three have. What x and y differ in is what y and z differ in one round later, so it is worked out once.
 fn maj(x: u32, y: u32, z: u32) -> u32
     ensures { λ r. ⌜ r ≡ Fips.maj x y z ⌝ }
 {
-    (x & y) ^ (x & z) ^ (y & z)
+    ((x ^ y) & (y ^ z)) ^ y
 }
 
 fn wide(x: u8) -> u32
@@ -177,64 +102,13 @@ fn next_word(w: &mut [u32; 16], i: usize)
     w[i] = later(&*w, i);
 }
 
-// Replaces all sixteen, one after the other, at places that are known when this is compiled, so that none is computed.
-fn sixteen_words(w: &mut [u32; 16])
-    requires { ⌜ length (now w) ≡ 16 ⌝ }
-    ensures { λ r. ⌜ Replaced 0 16 (now (w .entry)) (now (w .exit)) ⌝ }
-{
-    next_word(&mut *w, 0);
-    next_word(&mut *w, 1);
-    next_word(&mut *w, 2);
-    next_word(&mut *w, 3);
-    next_word(&mut *w, 4);
-    next_word(&mut *w, 5);
-    next_word(&mut *w, 6);
-    next_word(&mut *w, 7);
-    next_word(&mut *w, 8);
-    next_word(&mut *w, 9);
-    next_word(&mut *w, 10);
-    next_word(&mut *w, 11);
-    next_word(&mut *w, 12);
-    next_word(&mut *w, 13);
-    next_word(&mut *w, 14);
-    next_word(&mut *w, 15);
-}
-
-// Replaces the words that the rounds from 16 * g on have used, unless those rounds were the last.
-fn words_after(w: &mut [u32; 16], g: usize)
-    requires { ⌜ length (now w) ≡ 16 ⌝ }
-    ensures { λ r. ⌜ (length (now (w .exit)) ≡ 16) × (g < 3 → Replaced 0 16 (now (w .entry)) (now (w .exit))) ⌝ }
-{
-    if g == 3 {
-        return;
-    }
-    sixteen_words(&mut *w);
-}
-
-// The constants of the rounds from 16 * g on. Each is read where it lies: of one table for all rounds every call of
-// `compress` would make a copy.
-fn keys(g: usize) -> [u32; 16]
-    requires { ⌜ g < 4 ⌝ }
-    ensures { λ r. ⌜ r ≡ take 16 (drop (16 * g) Fips.K) ⌝ }
-{
-    if g == 0 {
-        return K0;
-    }
-    if g == 1 {
-        return K1;
-    }
-    if g == 2 {
-        return K2;
-    }
-    K3
-}
-
 // One round, with its constant k and its word w.
 fn round(v: Words, k: u32, w: u32) -> Words
     ensures { λ r. ⌜ r ≡ Fips.round k w v ⌝ }
 {
-    let p = wrapping_add_u32(wrapping_add_u32(v.h, big1(v.e)), ch(v.e, v.f, v.g));
-    let t1 = wrapping_add_u32(wrapping_add_u32(p, k), w);
+    // the sum begins with what is known before v.e is
+    let p = wrapping_add_u32(wrapping_add_u32(k, w), v.h);
+    let t1 = wrapping_add_u32(wrapping_add_u32(p, ch(v.e, v.f, v.g)), big1(v.e));
     let t2 = wrapping_add_u32(big0(v.a), maj(v.a, v.b, v.c));
     Words {
         a: wrapping_add_u32(t1, t2),
@@ -248,34 +122,105 @@ fn round(v: Words, k: u32, w: u32) -> Words
     }
 }
 
-// Round i of sixteen, with the constants k and the words w.
-fn next_round(v: Words, k: &[u32; 16], w: &[u32; 16], i: usize) -> Words
-    requires { ⌜ i < 16 ⌝ }
-    ensures { λ r. ⌜ r ≡ Fips.round (getD (now (k .entry)) i 0) (getD (now (w .entry)) i 0) v ⌝ }
+// Round i of sixteen with its constant, and then the word that it used is replaced.
+fn turn(v: Words, k: u32, w: &mut [u32; 16], i: usize) -> Words
+    requires { ⌜ (i < 16) × (length (now w) ≡ 16) ⌝ }
+    ensures { λ r. ⌜ (r ≡ Fips.round k (getD (now (w .entry)) i 0) v) × Replaced i 1 (now (w .entry)) (now (w .exit)) ⌝ }
 {
-    round(v, k[i], w[i])
+    let n = round(v, k, w[i]);
+    next_word(&mut *w, i);
+    n
 }
 
-// Sixteen rounds in a row: no word is moved between them.
-fn sixteen_rounds(v: Words, k: &[u32; 16], w: &[u32; 16]) -> Words
-    ensures { λ r. ⌜ r ≡ turned 16 (now (k .entry)) (now (w .entry)) v ⌝ }
+// Rounds 0 to 15. The constants are those of FIPS 180-4, 4.2.2, written where they are used, so that none is read.
+fn first_rounds(mut v: Words, w: &mut [u32; 16]) -> Words
+    requires { ⌜ length (now w) ≡ 16 ⌝ }
+    ensures { λ r. ⌜ Turned 16 (row 0) (now (w .entry)) v (now (w .exit)) r ⌝ }
 {
-    let v1 = next_round(v, k, w, 0);
-    let v2 = next_round(v1, k, w, 1);
-    let v3 = next_round(v2, k, w, 2);
-    let v4 = next_round(v3, k, w, 3);
-    let v5 = next_round(v4, k, w, 4);
-    let v6 = next_round(v5, k, w, 5);
-    let v7 = next_round(v6, k, w, 6);
-    let v8 = next_round(v7, k, w, 7);
-    let v9 = next_round(v8, k, w, 8);
-    let v10 = next_round(v9, k, w, 9);
-    let v11 = next_round(v10, k, w, 10);
-    let v12 = next_round(v11, k, w, 11);
-    let v13 = next_round(v12, k, w, 12);
-    let v14 = next_round(v13, k, w, 13);
-    let v15 = next_round(v14, k, w, 14);
-    next_round(v15, k, w, 15)
+    v = turn(v, 0x428a2f98, &mut *w, 0);
+    v = turn(v, 0x71374491, &mut *w, 1);
+    v = turn(v, 0xb5c0fbcf, &mut *w, 2);
+    v = turn(v, 0xe9b5dba5, &mut *w, 3);
+    v = turn(v, 0x3956c25b, &mut *w, 4);
+    v = turn(v, 0x59f111f1, &mut *w, 5);
+    v = turn(v, 0x923f82a4, &mut *w, 6);
+    v = turn(v, 0xab1c5ed5, &mut *w, 7);
+    v = turn(v, 0xd807aa98, &mut *w, 8);
+    v = turn(v, 0x12835b01, &mut *w, 9);
+    v = turn(v, 0x243185be, &mut *w, 10);
+    v = turn(v, 0x550c7dc3, &mut *w, 11);
+    v = turn(v, 0x72be5d74, &mut *w, 12);
+    v = turn(v, 0x80deb1fe, &mut *w, 13);
+    v = turn(v, 0x9bdc06a7, &mut *w, 14);
+    turn(v, 0xc19bf174, &mut *w, 15)
+}
+
+// Rounds 16 to 31.
+fn second_rounds(mut v: Words, w: &mut [u32; 16]) -> Words
+    requires { ⌜ length (now w) ≡ 16 ⌝ }
+    ensures { λ r. ⌜ Turned 16 (row 1) (now (w .entry)) v (now (w .exit)) r ⌝ }
+{
+    v = turn(v, 0xe49b69c1, &mut *w, 0);
+    v = turn(v, 0xefbe4786, &mut *w, 1);
+    v = turn(v, 0x0fc19dc6, &mut *w, 2);
+    v = turn(v, 0x240ca1cc, &mut *w, 3);
+    v = turn(v, 0x2de92c6f, &mut *w, 4);
+    v = turn(v, 0x4a7484aa, &mut *w, 5);
+    v = turn(v, 0x5cb0a9dc, &mut *w, 6);
+    v = turn(v, 0x76f988da, &mut *w, 7);
+    v = turn(v, 0x983e5152, &mut *w, 8);
+    v = turn(v, 0xa831c66d, &mut *w, 9);
+    v = turn(v, 0xb00327c8, &mut *w, 10);
+    v = turn(v, 0xbf597fc7, &mut *w, 11);
+    v = turn(v, 0xc6e00bf3, &mut *w, 12);
+    v = turn(v, 0xd5a79147, &mut *w, 13);
+    v = turn(v, 0x06ca6351, &mut *w, 14);
+    turn(v, 0x14292967, &mut *w, 15)
+}
+
+// Rounds 32 to 47.
+fn third_rounds(mut v: Words, w: &mut [u32; 16]) -> Words
+    requires { ⌜ length (now w) ≡ 16 ⌝ }
+    ensures { λ r. ⌜ Turned 16 (row 2) (now (w .entry)) v (now (w .exit)) r ⌝ }
+{
+    v = turn(v, 0x27b70a85, &mut *w, 0);
+    v = turn(v, 0x2e1b2138, &mut *w, 1);
+    v = turn(v, 0x4d2c6dfc, &mut *w, 2);
+    v = turn(v, 0x53380d13, &mut *w, 3);
+    v = turn(v, 0x650a7354, &mut *w, 4);
+    v = turn(v, 0x766a0abb, &mut *w, 5);
+    v = turn(v, 0x81c2c92e, &mut *w, 6);
+    v = turn(v, 0x92722c85, &mut *w, 7);
+    v = turn(v, 0xa2bfe8a1, &mut *w, 8);
+    v = turn(v, 0xa81a664b, &mut *w, 9);
+    v = turn(v, 0xc24b8b70, &mut *w, 10);
+    v = turn(v, 0xc76c51a3, &mut *w, 11);
+    v = turn(v, 0xd192e819, &mut *w, 12);
+    v = turn(v, 0xd6990624, &mut *w, 13);
+    v = turn(v, 0xf40e3585, &mut *w, 14);
+    turn(v, 0x106aa070, &mut *w, 15)
+}
+
+// Rounds 48 to 63, after which no word is used.
+fn last_rounds(mut v: Words, w: &[u32; 16]) -> Words
+    ensures { λ r. ⌜ r ≡ turned 16 (row 3) (now (w .entry)) v ⌝ }
+{
+    v = round(v, 0x19a4c116, w[0]);
+    v = round(v, 0x1e376c08, w[1]);
+    v = round(v, 0x2748774c, w[2]);
+    v = round(v, 0x34b0bcb5, w[3]);
+    v = round(v, 0x391c0cb3, w[4]);
+    v = round(v, 0x4ed8aa4a, w[5]);
+    v = round(v, 0x5b9cca4f, w[6]);
+    v = round(v, 0x682e6ff3, w[7]);
+    v = round(v, 0x748f82ee, w[8]);
+    v = round(v, 0x78a5636f, w[9]);
+    v = round(v, 0x84c87814, w[10]);
+    v = round(v, 0x8cc70208, w[11]);
+    v = round(v, 0x90befffa, w[12]);
+    v = round(v, 0xa4506ceb, w[13]);
+    v = round(v, 0xbef9a3f7, w[14]);
+    round(v, 0xc67178f2, w[15])
 }
 
 fn plus(s: Words, v: Words) -> Words
@@ -300,13 +245,8 @@ pub fn compress(s: Words, block: &[u8]) -> Words
 {
     let mut w = [0u32; 16];
     first_words(block, &mut w);
-    let mut v = s;
-    let mut g: usize = 0;
-    while g < 4 {
-        let k = keys(g);
-        v = sixteen_rounds(v, &k, &w);
-        words_after(&mut w, g);
-        g += 1;
-    }
-    plus(s, v)
+    let v1 = first_rounds(s, &mut w);
+    let v2 = second_rounds(v1, &mut w);
+    let v3 = third_rounds(v2, &mut w);
+    plus(s, last_rounds(v3, &w))
 }

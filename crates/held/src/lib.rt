@@ -53,18 +53,13 @@ pub fn all_zeros() -> Held
     }
 }
 
-// Whether a row is zero. Its bits are put together, with no test at each byte: most rows of a state are free, and many bytes are put together at a time.
+// Whether a row is zero.
 fn is_zero(row: Digest) -> bool
     ensures { λ r. ⌜ r ≡ same (row .bytes) zeros ⌝ }
 {
     let bytes = row.bytes;
-    let mut any: u8 = 0;
-    let mut k: usize = 0;
-    while k < 32 {
-        any = any | bytes[k];
-        k += 1;
-    }
-    any == 0
+    let zeros = [0u8; 32];
+    lists::same(&bytes, &zeros)
 }
 
 // Whether a row may stand as it is: the lowest bit of q tells if it is in use, and a free row is zero.

@@ -1,75 +1,34 @@
--- `block::compress` meets its contract: after g turns the words are those after 16 * g rounds, and those of the next sixteen rounds are there.
-use mathlib.Core.Path.{_≡_, refl}
-use Prim.Native.Nat.{_≤_, _<_, _-_, _*_}
+-- `block::compress` meets its contract: sixteen rounds after sixteen, each with its words ready.
 use native.Mathlib.Omega.{arith}
 use borrow.Author.Needs.{needs}
-use lib.ListN.{length}
-use Rattle.fips.specs.Sha256.{schedule, rounds}
-use Rattle.block.specs.Places.{Ready}
-use Rattle.block.proofs.Scheduling.{sixteen, next-ready, compressed}
+use Rattle.block.proofs.Scheduling.{reached-first, reached-next, sixteen, compressed}
 use Rattle.block.proofs.compress.Statement.{statement}
 use Rattle.block.proofs.compress.Tie as tie
 
-abbrev Inv-loop : tie.InvT-loop
-Inv-loop s block w₀ v₀ g₀ w v g = (g ≤ 4) × (length w ≡ 16) × (v ≡ rounds (16 * g) (schedule 64 block) s) × (g < 4 → Ready (16 * g) block w)
-
-abbrev μ-loop : tie.MeasureT-loop
-μ-loop s block w₀ v₀ g₀ w v g = 4 - g
-
-first-words-requires : tie.Need-first-words-requires Inv-loop μ-loop
-first-words-requires c κs = search needs
-
-loop-holds : tie.Need-loop-holds Inv-loop μ-loop
-unfolding rounds
-loop-holds c = (search needs, c .first-words .ensures .size, refl, λ h. c .first-words .ensures)
-
-keys-requires : tie.Need-keys-requires Inv-loop μ-loop
-keys-requires c κs = search needs
-
-sixteen-rounds-requires : tie.Need-sixteen-rounds-requires Inv-loop μ-loop
-sixteen-rounds-requires c κs = search needs
-
-words-after-requires : tie.Need-words-after-requires Inv-loop μ-loop
-words-after-requires c κs = search needs
-
-add-g : tie.Need-add-g Inv-loop μ-loop
-add-g c = search needs
-
-loop-less : tie.Need-loop-less Inv-loop μ-loop
-loop-less c = search needs
-
-loop-again : tie.Need-loop-again Inv-loop μ-loop
-loop-again c =
-    let l = c .before .before .before .before .before .before .before .loop in
-    let taken = c .before .before .before .before .before .before .loop-test .taken in
-    let ready = l .inv .3 taken in (
-      omega arith,
-      c .words-after .ensures .0,
-      sixteen (l .g) _ (l .w) taken ready _ (l .v) (l .inv .2) _ _ (c .before .before .before .before .before .keys .ensures) (c .before .before .sixteen-rounds .ensures),
-      λ h. next-ready (l .g) _ (l .w) taken ready _ (c .words-after .ensures .1 (omega arith)),
-    )
-
-plus-requires : tie.Need-plus-requires Inv-loop μ-loop
-plus-requires c κs = search needs
-
-returns : tie.Need-returns Inv-loop μ-loop
+returns : tie.Need-returns
 returns c =
-    let l = c .before .before .loop in
-    compressed _ (l .v) _ _ (l .g) (omega arith) (l .inv .2) (c .plus .ensures)
+    let c4 = c .before in
+    let c3 = c4 .before .before in
+    let c2 = c3 .before .before in
+    let c1 = c2 .before .before in
+    let c0 = c1 .before .before in
+    let a = c0 .before .before .before .args in
+    let m = a .block .now in
+    let s = a .s in
+    let r0 = reached-first m s (c0 .first-words .ensures) in
+    let r1 = reached-next 0 m s (omega arith) r0 (c1 .first-rounds .ensures) in
+    let r2 = reached-next 1 m s (omega arith) r1 (c2 .second-rounds .ensures) in
+    let r3 = reached-next 2 m s (omega arith) r2 (c3 .third-rounds .ensures) in
+    compressed m s (sixteen 3 m s (omega arith) r3 (c4 .last-rounds .ensures)) (c .plus .ensures)
 
 pub compress-spec : {M : Type 1} → statement M
 compress-spec =
     tie.close
     (tie.spec
-    Inv-loop
-    μ-loop
-    first-words-requires
-    loop-holds
-    keys-requires
-    sixteen-rounds-requires
-    words-after-requires
-    add-g
-    loop-less
-    loop-again
-    plus-requires
+    (λ c κs. search needs)
+    (λ c κs. search needs)
+    (λ c κs. search needs)
+    (λ c κs. search needs)
+    (λ c κs. search needs)
+    (λ c κs. search needs)
     returns)

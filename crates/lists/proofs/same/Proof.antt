@@ -1,37 +1,33 @@
--- `lists::same` meets its contract: the test of the whole is the test of what is left.
+-- `lists::same` meets its contract: the test of the whole is whether nothing differed so far, and the test of what is left.
 use mathlib.Core.Path.{_≡_, refl, sym, _∙_}
+use mathlib.Core.Bool.{_&&_}
 use Prim.Native.Nat.{_-_, _≤_}
 use native.Mathlib.Omega.{arith}
+use lib.Dec.{eqb}
 use lib.ListN.{length, drop}
 use denote.Ref.{now}
-use Rattle.lists.specs.Same.{same-lengths, same-step, same-stop, same-end}
+use Rattle.lists.specs.Same.{same-lengths, same-turn, same-told}
 use Rattle.lists.specs.Bytes as bytes
 use Rattle.lists.proofs.same.Statement.{statement}
 use Rattle.lists.proofs.same.Tie as tie
 
 abbrev Inv-loop : tie.InvT-loop
-Inv-loop a b i₀ i = (i ≤ length a) × (bytes.same a b ≡ bytes.same (drop i a) (drop i b))
+Inv-loop a b differing₀ i₀ differing i = (length a ≡ length b) × (i ≤ length a) × (bytes.same a b ≡ (eqb differing 0 && bytes.same (drop i a) (drop i b)))
 
 abbrev μ-loop : tie.MeasureT-loop
-μ-loop a b i₀ i = length a - i
+μ-loop a b differing₀ i₀ differing i = length a - i
 
 returns : tie.Need-returns Inv-loop μ-loop
 returns c = sym (same-lengths (now (c .before .args .a)) (now (c .before .args .b)) (λ e. omega arith))
 
 loop-holds : tie.Need-loop-holds Inv-loop μ-loop
-loop-holds c = (omega arith, refl)
+loop-holds c = (omega arith, omega arith, refl)
 
-shared-slice-read-if2 : tie.Need-shared-slice-read-if2 Inv-loop μ-loop
-shared-slice-read-if2 c = omega arith
+shared-slice-read-differing : tie.Need-shared-slice-read-differing Inv-loop μ-loop
+shared-slice-read-differing c = omega arith
 
-shared-slice-read-if2-2 : tie.Need-shared-slice-read-if2-2 Inv-loop μ-loop
-shared-slice-read-if2-2 c = omega arith
-
-returns-2 : tie.Need-returns-2 Inv-loop μ-loop
-returns-2 c =
-    let a = c .before .before .before .before .before .before .args in
-    let l = c .before .before .before .before .loop in
-    sym (l .inv .1 ∙ same-stop (now (a .a)) (now (a .b)) (l .i) (omega arith) (omega arith) (c .if2 .taken))
+shared-slice-read-differing-2 : tie.Need-shared-slice-read-differing-2 Inv-loop μ-loop
+shared-slice-read-differing-2 c = omega arith
 
 add-i : tie.Need-add-i Inv-loop μ-loop
 add-i c = omega arith
@@ -41,17 +37,15 @@ loop-less c = omega arith
 
 loop-again : tie.Need-loop-again Inv-loop μ-loop
 loop-again c =
-    let a = c .before .before .before .before .before .before .args in
-    let l = c .before .before .before .before .loop in (
-      omega arith,
-      l .inv .1 ∙ same-step (now (a .a)) (now (a .b)) (l .i) (omega arith) (omega arith) (c .if2 .left),
-    )
+    let l = c .before .before .before .loop in
+    let a = c .before .before .before .before .before .args in
+    (l .inv .0, omega arith, l .inv .2 ∙ same-turn (now (a .a)) (now (a .b)) (l .i) (l .differing) (omega arith) (omega arith))
 
-returns-3 : tie.Need-returns-3 Inv-loop μ-loop
-returns-3 c =
-    let a = c .before .before .before .args in
+returns-2 : tie.Need-returns-2 Inv-loop μ-loop
+returns-2 c =
     let l = c .before .loop in
-    sym (l .inv .1 ∙ same-end (now (a .a)) (now (a .b)) (l .i) (omega arith) (omega arith))
+    let a = c .before .before .before .args in
+    sym (l .inv .2 ∙ same-told (now (a .a)) (now (a .b)) (l .i) (l .differing) (omega arith) (omega arith))
 
 pub same-spec : {M : Type 1} → statement M
 same-spec =
@@ -61,10 +55,9 @@ same-spec =
     μ-loop
     returns
     loop-holds
-    shared-slice-read-if2
-    shared-slice-read-if2-2
-    returns-2
+    shared-slice-read-differing
+    shared-slice-read-differing-2
     add-i
     loop-less
     loop-again
-    returns-3)
+    returns-2)
