@@ -2,11 +2,10 @@
 use mathlib.Core.Path.{_≡_, refl, sym, ap, _∙_}
 use mathlib.Core.List.{List, map, [], _∷_, _++_, append-assoc, append-nil}
 use Prim.Native.Nat.{ℕ, zero, suc, _+_, _≤_, _<_}
-use native.Mathlib.Nat.{add-zero}
 use native.Mathlib.Numerals.{add-one}
 use native.Mathlib.Omega.{arith}
 use lib.ListN.{length, getD, take, drop, set, replicate, length-drop, length-map, drop-of-length-le}
-use lib.Seq.{sets, sets-eq, length-sets, take-at, drop-cons, take-suc, take-add, take-suc-set, getD-take, getD-drop, length-take-le}
+use lib.Seq.{sets, sets-eq, drop-cons, take-suc, take-add, take-suc-set, getD-take, getD-drop, length-take-le}
 
 -- a store at t makes the first t elements one more
 pub take-stored : (w : List ℕ) (t x : ℕ) (p : List ℕ) → t < length w → take t w ≡ p → take (t + 1) (set w t x) ≡ p ++ (x ∷ [])
@@ -52,21 +51,6 @@ sets-end l s at e =
     sets-eq s l at (omega arith)
     ∙ ap (λ (r : List ℕ). take at l ++ s ++ r) (drop-of-length-le l {i = at + length s} (omega arith))
     ∙ append-nil (take at l ++ s)
-
--- two runs of stores, one after the other
-pub sets-append : (a b l : List ℕ) (at : ℕ) → sets l at (a ++ b) ≡ sets (sets l at a) (at + length a) b
-sets-append [] b l at = rw add-zero
-sets-append (x ∷ a) b l at =
-    let e : suc at + length a ≡ at + suc (length a) = omega arith in
-    sets-append a b (set l at x) (suc at) ∙ rw e
-
--- and one over the other, up to the end of a list
-pub sets-over : (l a b : List ℕ) (at : ℕ) → at + length a ≡ length l → length b ≡ length a → sets (sets l at a) at b ≡ sets l at b
-sets-over l a b at h e =
-    let n = length-sets l at a in
-    sets-end (sets l at a) b at (omega arith)
-    ∙ ap (λ (p : List ℕ). p ++ b) (ap (take at) (sets-end l a at h) ∙ take-at (take at l) a at (length-take-le at l (omega arith)))
-    ∙ sym (sets-end l b at (omega arith))
 
 -- a list has the length of one that is made of it element by element, as a struct's array is of its bytes
 pub mapped-long : {B : Type 0} {n : ℕ} (l : List ℕ) (f : ℕ → B) → length (map f l) ≡ n → length l ≡ n

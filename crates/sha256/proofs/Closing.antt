@@ -5,7 +5,7 @@ use Prim.Native.Nat.{ℕ, _+_, _-_, _*_, _/_, _%_, _≤_, _<_, zero-le}
 use native.Mathlib.Nat.{zero-add}
 use native.Mathlib.Omega.{arith}
 use lib.ListN.{length, take, drop, replicate, length-append, length-replicate, replicate-append-replicate, drop-of-length-le}
-use lib.Seq.{paste, take-all, take-append-seam, drop-append-seam}
+use lib.Seq.{paste, take-all, take-at, drop-at}
 use Rattle.lists.specs.Bytes.{Bytes, be}
 use Rattle.lists.specs.Pasting.{paste-all, paste-more}
 use Rattle.fips.specs.Sha256.{padding, compress, chained}
@@ -22,12 +22,6 @@ mark-more a b = ap {B = Bytes} (λ l. 0x80 ∷ l) (sym (replicate-append-replica
 
 mark-length : (n : ℕ) → length (mark n) ≡ n + 1
 mark-length n = let l = length-replicate {A = ℕ} n 0 in omega arith
-
-take-at : (a b : Bytes) (n : ℕ) → length a ≡ n → take n (a ++ b) ≡ a
-take-at a b n l = ap (λ (k : ℕ). take k (a ++ b)) (sym l) ∙ take-append-seam a b
-
-drop-at : (a b : Bytes) (n : ℕ) → length a ≡ n → drop n (a ++ b) ≡ b
-drop-at a b n l = ap (λ (k : ℕ). drop k (a ++ b)) (sym l) ∙ drop-append-seam a b
 
 drop-zeros : (k n : ℕ) → k ≤ n → drop {A = ℕ} k (replicate n 0) ≡ replicate (n - k) 0
 drop-zeros k n h =
