@@ -1,7 +1,7 @@
-//! Times checking proofs beside a plain Rust checker that does the same work (`host/plain`): the same
-//! checks in the same order on the same bytes, with the same answers. So they are compared first, on
-//! each proof and on it with one byte changed: bench-check OFF ON, which are two copies of OpenSSL's
-//! library.
+//! Times checking proofs beside a plain Rust checker that does the same work (`host/plain`):
+//! bench-check OFF ON, which are two copies of OpenSSL's library. Both make the same checks in the same
+//! order on the same bytes, with the same answers; so they are compared first, on each proof and on it
+//! with one byte changed.
 //!
 //! Beside both stands the floor: the messages that the plain checker hashes, in its order and whole in
 //! memory, hashed alone by the proved hash; and the same by OpenSSL, with its processor extensions off
