@@ -1,4 +1,6 @@
 // Checking an advancement: the state held, the numbers, the proof's length, then hop by hop rows and links, then the last digest.
+#![tactic(auto)]
+
 ghost use Rattle.std.specs.Prelude.{◌≡◌, ◌≤◌, length};
 ghost use Rattle.lists.specs.Bytes.{same};
 ghost use Rattle.hash.specs.Hash.{hash_of};

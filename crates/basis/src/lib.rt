@@ -1,4 +1,6 @@
 // The state that a practice holds at a length, as a store gives it. Digests are taken as they are stored.
+#![tactic(auto)]
+
 ghost use Rattle.std.specs.Prelude.{◌≡◌, ◌≤◌, ◌<◌, length};
 ghost use Rattle.hash.specs.Hash.{hash_of};
 ghost use Rattle.rules.specs.Numbers.{v1, limit};

@@ -1,5 +1,7 @@
 // One block of a message: FIPS 180-4's functions, constants, schedule and rounds, up to the next hash value.
 // Of the schedule sixteen words are kept: each is replaced by the word sixteen later as soon as its round has used it.
+#![tactic(auto)]
+
 ghost use Rattle.std.specs.Prelude.{◌≡◌, ◌+◌, ◌*◌, ◌%◌, ◌<◌, ◌≤◌, length, slice_index};
 ghost use Rattle.fips.specs.Sha256 as Fips;
 ghost use Rattle.block.specs.Places.{Ready, Replaced, Turned, row, turned};

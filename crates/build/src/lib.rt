@@ -1,5 +1,7 @@
 // What the house makes from a store: membership and advancement proofs, written into lent output; and, handed on from `basis`, the state that a
 // practice holds at a length. Digests are taken as they are stored; only the audit judges those.
+#![tactic(auto)]
+
 ghost use Rattle.std.specs.Prelude.{◌≡◌, ◌&&◌, ◌+◌, ◌≤◌, leb, length};
 ghost use Rattle.std.proofs.Math.Seq.{paste};
 ghost use Rattle.hash.specs.Hash.{hash_of};

@@ -1,4 +1,6 @@
 // Two stores that should agree: the first byte at which their closed records differ, or which store is the start of the other. Request A8 of document 02.
+#![tactic(auto)]
+
 ghost use Rattle.std.specs.Prelude.{◌≡◌, min, ◌≤◌, length};
 ghost use Rattle.rules.specs.Numbers.{v1, limit};
 ghost use Rattle.rules.specs.Store.{place};

@@ -1,6 +1,8 @@
 // Lies that a house could tell if its hash were weak, at every place of several paths, and the disputes about them. Over the stand-in both proofs
 // of each case are accepted and the dispute shows the lie; over SHA-256 the second one is refused. `stdout` has the lines over SHA-256,
 // `stdout.standin` those over the stand-in.
+#![tactic(auto)]
+
 mod forge;
 mod say;
 

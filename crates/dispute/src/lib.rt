@@ -1,4 +1,6 @@
 // Two accepted proofs that differ show a lie of the house: two different messages with one hash.
+#![tactic(auto)]
+
 mod show; // writing messages into buffers
 mod settle; // the dispute routine
 

@@ -1,5 +1,7 @@
 // Runs document 01's figures that are not shown as theorems, at the ends that request A7 gives them, a line each: what was asked, and what the calls
 // answer.
+#![tactic(auto)]
+
 ghost use Rattle.std.specs.Prelude.{◌≤◌};
 
 use audit::Audited;

@@ -1,4 +1,6 @@
 // FIPS 180-4 as it is written, and in code the hash value: the first one, and the bytes of the last, which are the digest.
+#![tactic(auto)]
+
 ghost use Rattle.std.specs.Prelude.{◌≡◌, ◌+◌, ◌≤◌, length};
 ghost use Rattle.std.proofs.lemmas.List.Edits.{sets};
 ghost use Rattle.lists.specs.Bytes.{be};

@@ -1,4 +1,6 @@
 // Keys, their handles, and lent lists of handles.
+#![tactic(auto)]
+
 mod key; // a key's handle
 mod list; // a lent list: whether it may be used, and whether it has a handle
 

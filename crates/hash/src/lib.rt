@@ -1,4 +1,6 @@
 // The one function through which the log hashes. The crates above know the hash by its name and its 32 bytes alone, so that a stand-in can take this crate's place.
+#![tactic(auto)]
+
 ghost use Rattle.std.specs.Prelude.{◌≡◌};
 ghost use Rattle.hash.specs.Joined.{joined_of};
 

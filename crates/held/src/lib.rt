@@ -1,5 +1,7 @@
 // What a practice holds, by value: the state at the start of a log, whether a state is in order, and what a hop does to its rows.
 // A row is in use by its bit of the count, never by what it contains.
+#![tactic(auto)]
+
 ghost use Rattle.std.specs.Prelude.{◌≡◌, ◌||◌, ◌+◌, ◌/◌, ◌%◌, ◌^◌, ◌<◌, length, drop};
 ghost use Rattle.lists.specs.Bytes.{same, zeros};
 ghost use Rattle.hash.specs.Hash.{hash_of};

@@ -1,4 +1,6 @@
 // HMAC of RFC 2104 over the log's hash, with blocks of 64 bytes.
+#![tactic(auto)]
+
 ghost use Rattle.std.specs.Prelude.{◌≡◌, ◌≤◌, length};
 ghost use Rattle.hash.specs.Hash.{hash_of};
 ghost use Rattle.seals.specs.Hmac.{hmac_of};

@@ -1,4 +1,6 @@
 // Byte strings in lent slices: compared, copied, and read and written as big-endian numbers.
+#![tactic(auto)]
+
 ghost use Rattle.std.specs.Prelude.{◌≡◌, ◌+◌, ◌≤◌, ◌<◌, length, take, drop};
 ghost use Rattle.std.proofs.Math.Seq.{paste};
 ghost use Rattle.lists.specs.Bytes.{be, number};

@@ -1,4 +1,6 @@
 // Checking proofs of presence and absence: from the leaf or an empty node up to the root.
+#![tactic(auto)]
+
 ghost use Rattle.std.specs.Prelude.{◌≡◌, ◌-◌, ◌≤◌, eqb, drop};
 ghost use Rattle.lists.specs.Bytes.{same};
 ghost use Rattle.hash.specs.Hash.{hash_of};

@@ -1,5 +1,7 @@
 // Reads a store from standard input, audits it and writes one line: `sound N` with the count, `wrong N` with the lowest wrong element,
 // `refused 1`, or `too long` for more than 65,536 bytes. A failed read counts as the end of input.
+#![tactic(auto)]
+
 use audit::Audited;
 use libc::STDOUT_FILENO;
 

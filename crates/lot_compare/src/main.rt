@@ -1,6 +1,8 @@
 // Compares the stores in the two files that its arguments name and writes one line: `equal`, `first shorter`, `second shorter`, `differ N B` with the element
 // and its byte from 0, `refused N`, or `unread` where there are not two names, a file can't be read or has more than 32,768 bytes. The line is proved to be
 // the rule's, `compare_line::line`; that the bytes read are the files' no contract can say.
+#![tactic(auto)]
+
 ghost use Rattle.std.specs.Prelude.{◌≡◌, length};
 ghost use Rattle.io.specs.Counts.{IsPrefixLen};
 

@@ -1,4 +1,6 @@
 // Checking membership: entry, positions, length, first d, then hop by hop, then the last digest.
+#![tactic(auto)]
+
 ghost use Rattle.std.specs.Prelude.{◌≡◌, ◌+◌, ◌≤◌, ◌<◌, ◌^◌, length};
 ghost use Rattle.hash.specs.Hash.{hash_of};
 ghost use Rattle.rules.specs.Numbers.{v1};

@@ -1,4 +1,6 @@
 // The nodes of the trie: the bits of handles, and the messages and digests of leaves and inner nodes.
+#![tactic(auto)]
+
 ghost use Rattle.std.specs.Prelude.{◌≡◌, ◌+◌, ◌≤◌, ◌<◌, length, take, drop};
 ghost use Rattle.hash.specs.Hash.{hash_of};
 ghost use Rattle.dictionary.specs.Handles.{turn};

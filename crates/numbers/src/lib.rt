@@ -1,5 +1,7 @@
 // The numbers of documents 01 and 02: what each call answers, for a caller that has numbers alone. With the number goes one more: the count, the proof's
 // length, the hops found good, or the wrong element or entry; and with 9 and 10 the place where a proof broke, which is 0, 0 with every other number.
+#![tactic(auto)]
+
 ghost use Rattle.std.specs.Prelude.{◌≡◌};
 ghost use Rattle.store.specs.Told as read;
 ghost use Rattle.audit.specs.Told.{audit_told};

@@ -1,6 +1,8 @@
 // A presence and an absence of one key that a house could show if its hash were weak, at several depths, and what they come to. Over the stand-in both
 // are accepted, and two different messages of one hash are formed, or one whose hash is all zeros; over SHA-256 the absence is refused. `stdout` has
 // the lines over SHA-256 and `stdout.standin` those over the stand-in, both from `scripts/expected`.
+#![tactic(auto)]
+
 mod forge;
 mod say;
 

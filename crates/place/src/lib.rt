@@ -1,4 +1,6 @@
 // Where two proofs for (i, n) differ, nearest n.
+#![tactic(auto)]
+
 ghost use Rattle.std.specs.Prelude.{◌≡◌, ◌+◌, ◌≤◌, length};
 ghost use Rattle.rules.specs.Numbers.{v1};
 ghost use Rattle.rules.specs.Paths.{path};

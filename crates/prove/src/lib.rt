@@ -1,4 +1,6 @@
 // Building proofs: the siblings on a key's way, from the root down to the leaf or to the first empty node.
+#![tactic(auto)]
+
 ghost use Rattle.std.specs.Prelude.{◌≡◌, ◌+◌, ◌*◌, ◌≤◌, ◌<◌, length};
 ghost use Rattle.std.proofs.Math.Seq.{paste};
 ghost use Rattle.hash.specs.Hash.{hash_of};

@@ -1,4 +1,6 @@
 // The file of what a practice holds: writing it into lent output, and reading it. The file has the rows in use alone, so its length follows from the count.
+#![tactic(auto)]
+
 ghost use Rattle.std.specs.Prelude.{◌≡◌, [], cond, ◌+◌, ◌*◌, ◌%◌, ◌≤◌, length, take, drop};
 ghost use Rattle.std.specs.Int.Count.{ones};
 ghost use Rattle.std.proofs.Math.Seq.{paste};

@@ -1,4 +1,6 @@
 // The stand-in for the hash: the XOR of the message's 32-byte blocks, the last filled with zeros. Anyone can make it collide, so disputes can be run.
+#![tactic(auto)]
+
 ghost use Rattle.std.specs.Prelude.{◌≡◌, ◌<◌};
 ghost use Rattle.standin.specs.Stirred.{stirred};
 ghost use Rattle.standin.specs.Joined.{joined_of};

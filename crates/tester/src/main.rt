@@ -1,5 +1,7 @@
 // Writes what the log's hash gives for a few messages, a line for each. Over SHA-256 all digests differ; over the stand-in the two orders of the
 // same blocks collide. `stdout` has the lines for SHA-256 and `stdout.standin` those for the stand-in, both from `scripts/expected`.
+#![tactic(auto)]
+
 use libc::STDOUT_FILENO;
 
 fn say_digest(digest: &[u8; 32]) {

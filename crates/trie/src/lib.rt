@@ -1,4 +1,6 @@
 // The trie over a lent list of handles: the two sides of a list, the digest of the node over it, and the root.
+#![tactic(auto)]
+
 ghost use Rattle.std.specs.Prelude.{◌≡◌, ◌+◌, ◌*◌, ◌%◌, ◌≤◌, ◌<◌, length};
 ghost use Rattle.hash.specs.Hash.{hash_of};
 ghost use Rattle.dictionary.specs.Handles.{rows_of};

@@ -1,6 +1,8 @@
 // A van's day: its log of four entries, what adding answers, and what the office answers for the log whole, cut off behind each byte, with a bit of each
 // byte changed, and with two blocks of an entry's data exchanged. Over the stand-in the exchange keeps Y, so that both logs are accepted; over SHA-256 the
 // entry is wrong. `stdout` has the lines over SHA-256 and `stdout.standin` those over the stand-in, both from `scripts/expected`.
+#![tactic(auto)]
+
 use hash::Digest;
 use libc::STDOUT_FILENO;
 use sealed::{Adding, Checked};

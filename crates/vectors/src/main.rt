@@ -1,5 +1,7 @@
 // Runs SHA-256 over example messages, each at once and in six cuttings. A line has the message's name, the number answered, the digest, and whether
 // every cutting answers alike. The expected lines come from `scripts/expected`, which asks another maker's SHA-256.
+#![tactic(auto)]
+
 ghost use Rattle.std.specs.Prelude.{◌≤◌, ◌<◌};
 
 use libc::STDOUT_FILENO;

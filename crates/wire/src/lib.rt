@@ -1,4 +1,6 @@
 // The bytes of a held state: log number and count (8 bytes each, big-endian), digest, rows.
+#![tactic(auto)]
+
 ghost use Rattle.std.specs.Prelude.{◌≡◌, ◌+◌, ◌≤◌, length, drop};
 ghost use Rattle.std.proofs.Math.Seq.{paste};
 ghost use Rattle.rules.specs.Numbers.{v1};

@@ -5,12 +5,10 @@ use Prim.Native.Nat.{ℕ, zero, suc, ◌+◌, ◌-◌, ◌≤◌}
 use native.Mathlib.Omega.{arith}
 use lib.ListN.{length, take, drop, replicate, length-append, length-replicate, drop_of_length-le}
 use lib.Seq.{paste, take_all}
-use borrow.Author.Rules.{rules}
 use Rattle.lists.specs.Bytes.{Bytes, number_from, number}
 use Rattle.lists.specs.Laws.{take_replicate, length_part}
 use Rattle.lists.specs.Pasting.{part_of, paste_all}
-use Rattle.lists.proofs.number_in.Statement.{statement}
-use Rattle.lists.proofs.number_in.Tie as tie
+use Rattle.lists.proofs.number_in.Goals as goal
 
 behind_zeros : (m : ℕ) (b : Bytes) → number (replicate m 0 ++ b) ≡ number b
 unfolding number_from
@@ -27,52 +25,10 @@ widened part w k h l e =
     let n = ap length p ∙ length-append (replicate (8 - k) 0) part in
     ap number (take_all 8 w (omega (arith, length-replicate {A = ℕ} (8 - k) 0)) ∙ p) ∙ behind_zeros (8 - k) part
 
-add-end : tie.Need-overflow-add-end
-add-end c = search rules
-
-slice-aggregate-put : tie.Need-slice-aggregate-put
-slice-aggregate-put c = search rules
-
-sub-put : tie.Need-overflow-sub-put
-sub-put c = search rules
-
-sub-put-2 : tie.Need-overflow-sub-put-2
-sub-put-2 c = search rules
-
-part-put-start : tie.Need-slice-bounds-put-start
-part-put-start c = search rules
-
-part-put-end : tie.Need-slice-bounds-put-end
-part-put-end c = search rules
-
-put-requires : tie.Need-put-requires
-put-requires c κs = search rules
-
-slice-aggregate-number-at : tie.Need-slice-aggregate-number-at
-slice-aggregate-number-at c = search rules
-
-number-at-requires : tie.Need-number-at-requires
-number-at-requires c κs = search rules
-
-returns : tie.Need-returns
+pub returns : goal.returns
 returns c =
-    let a = c.before.before.before.before.before.before.before.args in
+    let a = c.args in
     let part = take a.k (drop a.at a.s.now) in
     c.number_at.ensures
     ∙ widened part _ a.k (omega arith) (length_part a.k a.at a.s.now (omega arith))
-    (c.before.before.before.put.ensures ∙ ap (λ (x : Bytes). paste (replicate 8 0) (8 - a.k) x a.k) (part_of a.s.now a.at a.k))
-
-pub number-in-spec : {M : Type 1} → statement M
-number-in-spec =
-    tie.close
-    (tie.spec
-    add-end
-    slice-aggregate-put
-    sub-put
-    sub-put-2
-    part-put-start
-    part-put-end
-    put-requires
-    slice-aggregate-number-at
-    number-at-requires
-    returns)
+    (c.put.ensures ∙ ap (λ (x : Bytes). paste (replicate 8 0) (8 - a.k) x a.k) (part_of a.s.now a.at a.k))
