@@ -19,7 +19,7 @@ use path::{Length, Position, Reach};
 
 // What the check finds; `hops` are the hops found good. `element` is the element reached where a row or a link differs, with the row, the lowest that
 // does, or the level hopped.
-#[derive(Drop)]
+#[derive(Clone, Copy)]
 pub enum Advance {
     Accepted { hops: u64 },
     StateBroken,
@@ -31,14 +31,14 @@ pub enum Advance {
 }
 
 // What the check finds, and the state to hold from now on: the new one if it accepts, else the old.
-#[derive(Drop)]
+#[derive(Clone, Copy)]
 pub struct Advanced {
     pub verdict: Advance,
     pub held: Held,
 }
 
 // What one hop finds; a bad one names the element reached and the row or the level that differs.
-#[derive(Drop)]
+#[derive(Clone, Copy)]
 pub enum Hop {
     Good,
     Row { element: u64, row: u64 },
@@ -46,7 +46,7 @@ pub enum Hop {
 }
 
 // A hop's verdict, and the state then: after a bad hop, the state as it was.
-#[derive(Drop)]
+#[derive(Clone, Copy)]
 pub struct Hopped {
     pub verdict: Hop,
     pub state: Held,

@@ -16,7 +16,7 @@ use path::Length;
 use store::{Counted, Found};
 
 // The state that a practice holds; all zeros beside a refusal.
-#[derive(Drop)]
+#[derive(Clone, Copy)]
 pub struct HeldRead {
     pub found: Found,
     pub held: Held,

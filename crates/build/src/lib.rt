@@ -18,7 +18,7 @@ use path::{Length, Position};
 use store::Counted;
 
 // What building a proof comes to; `size` is the bytes of the proof.
-#[derive(Drop)]
+#[derive(Clone, Copy)]
 pub enum Built {
     Written { size: u64 },
     Damaged,

@@ -16,7 +16,7 @@ use node::{crossing, digest_of, leaf_of};
 pub(crate) const ROOM: usize = 65;
 
 // What was found from some depth down: two messages, or one of `size` bytes.
-#[derive(Drop)]
+#[derive(Clone, Copy)]
 pub(crate) struct Meet {
     pub(crate) both: bool,
     pub(crate) size: usize,

@@ -11,7 +11,7 @@ use hash::Digest;
 use lookup::{check_absence, check_presence, is_accepted};
 
 // What an accepted presence and an accepted absence come to: two messages of these lengths; one message; a buffer that is too short; a proof that is not accepted.
-#[derive(Drop)]
+#[derive(Clone, Copy)]
 pub enum Clashed {
     Two { first: usize, second: usize },
     Zero { size: usize },

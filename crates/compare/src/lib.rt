@@ -11,7 +11,7 @@ ghost use Rattle.compare.specs.Told.{compared_told};
 use path::Position;
 use store::Counted;
 
-#[derive(Drop)]
+#[derive(Clone, Copy)]
 pub enum Compared {
     Equal,
     FirstShorter,
@@ -22,7 +22,7 @@ pub enum Compared {
 }
 
 // Where two scans stand: at an element, and at a byte of it.
-#[derive(Drop)]
+#[derive(Clone, Copy)]
 struct Spot {
     element: u64,
     byte: usize,

@@ -16,7 +16,7 @@ use place::{Spot, find};
 const ROOM: usize = messages::ENTRY_LIMIT + 1;
 
 // What a dispute comes to: nothing differs; two messages of these lengths; a buffer that is too short; a proof that is not accepted.
-#[derive(Drop)]
+#[derive(Clone, Copy)]
 pub enum Answer {
     Same,
     Shown { first: usize, second: usize },

@@ -7,7 +7,7 @@ ghost use Rattle.lists.specs.Bytes.{be};
 ghost use Rattle.fips.specs.Sha256 as Fips;
 
 // The eight words of a hash value.
-#[derive(Drop)]
+#[derive(Clone, Copy)]
 pub struct Words {
     pub a: u32,
     pub b: u32,

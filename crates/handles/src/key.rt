@@ -12,13 +12,13 @@ use hash::Digest;
 pub const KEY_LIMIT: usize = 4_096;
 
 // What asking for a handle comes to; beside a refusal the digest is zeros.
-#[derive(Drop)]
+#[derive(Clone, Copy)]
 pub enum HandleAnswer {
     Done,
     KeyTooLong,
 }
 
-#[derive(Drop)]
+#[derive(Clone, Copy)]
 pub struct HandleRead {
     pub answer: HandleAnswer,
     pub digest: Digest,

@@ -4,7 +4,7 @@
 ghost use Rattle.std.specs.Prelude.{◌≡◌};
 ghost use Rattle.hash.specs.Joined.{joined_of};
 
-#[derive(Drop)]
+#[derive(Clone, Copy)]
 pub struct Digest {
     pub bytes: [u8; 32],
 }

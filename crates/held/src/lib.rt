@@ -19,7 +19,7 @@ use path::Length;
 pub const LEVELS: usize = path::LEVELS;
 
 // A log number, the count of its elements, the digest of the last, and the basis: a row for each level.
-#[derive(Drop)]
+#[derive(Clone, Copy)]
 pub struct Held {
     pub log: u64,
     pub count: Length,
@@ -108,7 +108,7 @@ pub fn is_in_order(h: Held) -> bool
 }
 
 // What the rows say of a hop.
-#[derive(Drop)]
+#[derive(Clone, Copy)]
 pub enum Rows {
     Agree,
     Differ { row: u64 },

@@ -19,14 +19,14 @@ const INNER: u8 = 0x36;
 
 const OUTER: u8 = 0x5c;
 
-#[derive(Drop)]
+#[derive(Clone, Copy)]
 pub enum Coding {
     Done,
     TooLong,
 }
 
 // The code of a message, of 32 zero bytes beside a refusal.
-#[derive(Drop)]
+#[derive(Clone, Copy)]
 pub struct Coded {
     pub coding: Coding,
     pub digest: Digest,

@@ -21,7 +21,7 @@ const LEVELS: usize = 256;
 const LONGEST: usize = 8_192;
 
 // What a check finds.
-#[derive(Drop)]
+#[derive(Clone, Copy)]
 pub enum Verdict {
     Accepted,
     KeyTooLong,

@@ -9,7 +9,7 @@ ghost use Rattle.io.specs.Counts.{IsPrefixLen};
 use libc::STDOUT_FILENO;
 
 // What reading a file comes to: whether each read was good, and the bytes that came. None count where a read failed.
-#[derive(Drop)]
+#[derive(Clone, Copy)]
 struct Taken {
     good: bool,
     size: usize,

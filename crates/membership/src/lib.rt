@@ -15,7 +15,7 @@ use messages::{component_at, row_is, same_digest};
 use path::{Length, Position};
 
 // What the check finds; `hops` are the hops found good, and `element` and `level` say where a link differs: the element reached and the level hopped.
-#[derive(Drop)]
+#[derive(Clone, Copy)]
 pub enum Verdict {
     Accepted { hops: u64 },
     EntryTooLong,
@@ -38,14 +38,14 @@ pub fn is_accepted(v: Verdict) -> bool
 }
 
 // What one hop finds; `Link` names the element reached and the level whose link differs.
-#[derive(Drop)]
+#[derive(Clone, Copy)]
 enum Hop {
     Good,
     Link { element: u64, level: u64 },
 }
 
 // Where a walk stands: an element, its digest, and where the next component begins.
-#[derive(Drop)]
+#[derive(Clone, Copy)]
 struct Walk {
     at: Position,
     digest: Digest,
@@ -53,7 +53,7 @@ struct Walk {
 }
 
 // A hop's verdict, and where the walk stands then: after a bad hop, where it stood.
-#[derive(Drop)]
+#[derive(Clone, Copy)]
 struct Hopped {
     verdict: Hop,
     state: Walk,

@@ -30,7 +30,7 @@ use store::{Appended, Counted, Found, Started};
 use trie::RootAnswer;
 
 // 01's number, the number given with it, and where a proof broke: the element reached, and the row for 9 or the level hopped for 10.
-#[derive(Drop)]
+#[derive(Clone, Copy)]
 pub struct Said {
     pub number: u64,
     pub value: u64,

@@ -13,14 +13,14 @@ use messages::component_at;
 use path::{Length, Position};
 
 // Where two proofs differ: in the components of this element, which begin at this place of both.
-#[derive(Drop)]
+#[derive(Clone, Copy)]
 pub enum Spot {
     Nowhere,
     At { element: Position, offset: usize },
 }
 
 // Where a part of a proof begins, and its size.
-#[derive(Drop)]
+#[derive(Clone, Copy)]
 pub struct Part {
     pub from: usize,
     pub size: usize,

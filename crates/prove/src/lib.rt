@@ -17,7 +17,7 @@ use node::key_turns;
 use trie::{side_of, subtree};
 
 // What building a proof comes to; `size` is the bytes of the proof.
-#[derive(Drop)]
+#[derive(Clone, Copy)]
 pub enum Built {
     Written { size: u64 },
     KeyTooLong,

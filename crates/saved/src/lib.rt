@@ -28,7 +28,7 @@ const COUNT: usize = 13;
 const DIGEST: usize = 21;
 
 // What writing a file comes to; `size` is the bytes of the file.
-#[derive(Drop)]
+#[derive(Clone, Copy)]
 pub enum Saved {
     Written { size: u64 },
     StateBroken,
@@ -36,7 +36,7 @@ pub enum Saved {
 }
 
 // What reading a file comes to.
-#[derive(Drop)]
+#[derive(Clone, Copy)]
 pub enum Reading {
     Done,
     FileShort,
@@ -48,7 +48,7 @@ pub enum Reading {
 }
 
 // The state that a file gives; all zeros beside a refusal.
-#[derive(Drop)]
+#[derive(Clone, Copy)]
 pub struct FileRead {
     pub reading: Reading,
     pub held: Held,

@@ -5,7 +5,7 @@ ghost use Rattle.std.specs.Prelude.{◌≡◌, ◌<◌};
 ghost use Rattle.standin.specs.Stirred.{stirred};
 ghost use Rattle.standin.specs.Joined.{joined_of};
 
-#[derive(Drop)]
+#[derive(Clone, Copy)]
 pub struct Digest {
     pub bytes: [u8; 32],
 }

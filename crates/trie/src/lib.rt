@@ -15,13 +15,13 @@ use hash::Digest;
 use node::{digest_of, inner_message, leaf, turns};
 
 // What asking for a root comes to; beside a refusal the digest is zeros.
-#[derive(Drop)]
+#[derive(Clone, Copy)]
 pub enum RootAnswer {
     Done,
     ListRefused,
 }
 
-#[derive(Drop)]
+#[derive(Clone, Copy)]
 pub struct RootRead {
     pub answer: RootAnswer,
     pub digest: Digest,

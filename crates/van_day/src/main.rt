@@ -61,7 +61,7 @@ fn say_checked(checked: Checked) {
 }
 
 // Where a log stands: the chain's value, and its bytes so far.
-#[derive(Drop)]
+#[derive(Clone, Copy)]
 struct Log {
     chain: Digest,
     at: usize,

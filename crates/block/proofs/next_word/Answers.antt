@@ -1,0 +1,8 @@
+-- `block::next_word` meets its contract: the word at one place is replaced.
+use Rattle.block.proofs.Scheduling.{replaced}
+use Rattle.std.proofs.Common.{rules}
+use Rattle.block.proofs.next_word.Goals as goal
+
+pub returns : goal.returns
+returns c =
+    replaced c.args.i _ _ c.requires.0 c.requires.1 c.later.ensures
