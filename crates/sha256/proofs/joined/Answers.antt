@@ -26,5 +26,5 @@ returns c =
     let y = a.second.now in
     let l = length-append x y in
     ap (answered 0)
-    (ended_all _ _ (x ++ y) _ _ c.first.ensures (sym l) (ended_rest _ _ _ x y _ c.chain-words.ensures c.Ended-by.ensures) c.bytes_of-digest.ensures)
+    (ended_all _ _ (x ++ y) _ _ c.first.ensures (sym l) (ended_rest _ _ _ x y _ c.chain-words.ensures c.ended_by-last.ensures) c.bytes_of-digest.ensures)
     ∙ sym (hashed_fits (x ++ y) (omega arith))

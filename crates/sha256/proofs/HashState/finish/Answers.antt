@@ -10,7 +10,7 @@ use Rattle.sha256.proofs.HashState.finish.Goals.{Else-is_broken}
 
 -- past the test the state is sound
 sound : (c : Else-is_broken) → broken c.args.self ≡ false
-sound c.Else-is_broken = sym c.is_broken.ensures ∙ c.if-is_broken.false
+sound c = sym c.is_broken.ensures ∙ c.if-is_broken.false
 
 pub returns-then-is_broken : goal.returns-then-is_broken
 returns-then-is_broken c = sym (finished_broken _ (sym c.is_broken.ensures ∙ c.if-is_broken.true))
