@@ -43,8 +43,8 @@ pub row_of : (rows : List Digest) (c : ℕ) → get_or (rows_of rows) c [] ≡ b
 row_of rows c = get_or-map bytes_of rows c no_digest
 
 -- the length of an array of digests, as the record of a place has it
-pub rows_long : {B : Type 0} (rows : List Digest) (f : Digest → B) → length (map f rows) ≡ v1.levels → length (rows_of rows) ≡ v1.levels
-rows_long rows f e = length-map rows bytes_of ∙ sym (length-map rows f) ∙ e
+pub rows_long : (rows : List Digest) → length rows ≡ v1.levels → length (rows_of rows) ≡ v1.levels
+rows_long rows e = length-map rows bytes_of ∙ e
 
 pub rows_set : (rows : List Digest) (c : ℕ) (d : Digest) → rows_of (set rows c d) ≡ set (rows_of rows) c (bytes_of d)
 rows_set [] c d = refl

@@ -4,7 +4,6 @@ use mathlib.Core.Logic.{◌≢◌}
 use mathlib.Core.List.{[], ◌∷◌}
 use Prim.Native.Nat.{ℕ}
 use lib.Dec.{eqb}
-use borrow.Author.Rules.{rules}
 use borrow.Author.Tests.{eq-eqb, ne_eqb}
 use types.Run.{OneOf, miss}
 use denote.Enum.Declared.{tag_of}
@@ -13,8 +12,8 @@ use Rattle.membership.specs.Verdicts.{verdict_of}
 use Rattle.membership.specs.declared.Verdict.{Verdict}
 use Rattle.membership.specs.declared.Verdict.TheVariants.{Accepted, EntryTooLong, NoSuchElement, WrongLength, OtherEntry, LinkDiffers, DigestDiffers}
 use Rattle.membership.specs.contracts.Verdict.{the_type}
-use Rattle.membership.proofs.is_accepted.Statement.{statement}
-use Rattle.membership.proofs.is_accepted.Tie as tie
+use Rattle.std.proofs.Common.{rules}
+use Rattle.membership.proofs.is_accepted.Goals as goal
 
 by_tag : (v : Verdict) → is_accepted (verdict_of v) ≡ eqb (tag_of the_type v) 0
 unfolding verdict_of
@@ -29,14 +28,8 @@ by_tag (DigestDiffers hops) = refl
 not_first : (k : ℕ) → OneOf (1 ∷ 2 ∷ 3 ∷ 4 ∷ 5 ∷ 6 ∷ []) k → k ≢ 0
 not_first k o e = miss (1 ∷ 2 ∷ 3 ∷ 4 ∷ 5 ∷ 6 ∷ []) 0 tt (rw e at o)
 
-enum_told : tie.Need-enum-told
-enum_told c = search rules
+pub returns-in-Accepted : goal.returns-in-Accepted
+returns-in-Accepted c = sym (by_tag _ ∙ eq-eqb _ 0 c.in-Accepted.in-Accepted-own.keys1)
 
-returns : tie.Need-returns
-returns c = sym (by_tag _ ∙ eq-eqb _ 0 c.before.match.keys1)
-
-returns-2 : tie.Need-returns-2
-returns-2 c = sym (by_tag _ ∙ ne_eqb _ 0 (not_first _ c.match.keys2))
-
-pub is-accepted-spec : {M : Type 1} → statement M
-is-accepted-spec = tie.close (tie.spec enum_told returns returns-2)
+pub returns-in_default : goal.returns-in_default
+returns-in_default c = sym (by_tag _ ∙ ne_eqb _ 0 (not_first _ c.in_default.in_default-own.keys2))

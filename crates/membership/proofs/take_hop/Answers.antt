@@ -5,7 +5,6 @@ use Prim.Native.Nat.{ℕ, suc, ◌+◌, ◌*◌, ◌≤◌, ◌<◌}
 use native.Mathlib.Numerals.{add-one}
 use native.Mathlib.Omega.{arith}
 use lib.ListN.{length}
-use borrow.Author.Rules.{rules}
 use borrow.Author.Tests.{not-true, not-false}
 use Rattle.lists.specs.Bytes.{Bytes, same}
 use Rattle.hash.specs.Hash.{hash_of}
@@ -19,8 +18,9 @@ use Rattle.membership.specs.declared.Hopped.{Hopped}
 use Rattle.membership.specs.declared.Hop.TheVariants.{Good, Link}
 use Rattle.messages.specs.Parts.{part_length, size_short}
 use Rattle.membership.specs.Hopping.{level_here, to_here, link_holds, hop_of, hop_good, hop_bad}
-use Rattle.membership.proofs.take_hop.Statement.{statement}
-use Rattle.membership.proofs.take_hop.Tie as tie
+use Rattle.std.proofs.Common.{rules}
+use Rattle.membership.proofs.take_hop.Goals as goal
+use Rattle.membership.proofs.take_hop.Goals.{After-component_at-component}
 
 -- the hop that the code found, and the component where it ends
 record Found (p : Bytes) (n : ℕ) (w : Walk) (l to : ℕ) (x : Bytes) : Type 0 where
@@ -59,57 +59,27 @@ module _ (p : Bytes) (n : ℕ) (w : Walk) (l : ℕ) (to : Position) (x : Bytes) 
       ∙ ap (λ (j : ℕ). made j (hash_of (element_msg j (part v1 p w.next j))) (w.next + size v1 j)) f.reached
       ∙ sym (hop_good p n w (sym tested ∙ e))
 
-there : (c : tie.After-component-at) →
-    let a = c.before.before.before.before.before.args in
-    let r = c.before.before.hop.result in
-    Found a.proof.now a.n.0 a.w r.level r.to.0 c.component-at.result.now
+there : (c : After-component_at-component) →
+    let a = c.args in
+    let r = c.hop-r.result in
+    Found a.proof.now a.n.0 a.w r.level r.to.0 c.component_at-component.result.now
 there c =
-    let a = c.before.before.before.before.before.args in
-    let h = c.before.before.hop.ensures in
-    found a.proof.now a.n.0 a.w _ _ _ (omega arith) (omega arith) h.0 h.1 c.component-at.ensures
+    let a = c.args in
+    let h = c.hop-r.ensures in
+    found a.proof.now a.n.0 a.w _ _ _ (omega arith) (omega arith) h.0 h.1 c.component_at-component.ensures
 
-hop-requires : tie.Need-hop-requires
-hop-requires c κs = search rules
+pub component_at-component-requires : goal.component_at-component-requires
+component_at-component-requires c = let e = ap (size v1) c.hop-r.ensures.1 in omega arith
 
-component-at-requires : tie.Need-component-at-requires
-component-at-requires c κs = let e = ap (size v1) c.before.hop.ensures.1 in omega arith
+pub row_is-requires : goal.row_is-requires
+row_is-requires c = omega (arith, (there (goal.at.row_is-requires c).After-component_at-component).linked)
 
-cast-row-is : tie.Need-overflow-cast-row-is
-cast-row-is c = search rules
+pub returns-then-not-row_is : goal.returns-then-not-row_is
+returns-then-not-row_is c = differs _ _ _ _ _ _ (there (goal.at.returns-then-not-row_is c).After-component_at-component) _ c.row_is.ensures (c.if-not-row_is.true)
 
-add-row-is : tie.Need-overflow-add-row-is
-add-row-is c = search rules
+pub element_digest-requires : goal.element_digest-requires
+element_digest-requires c = omega (arith, (there (goal.at.element_digest-requires c).After-component_at-component).sized, size_short c.hop-r.result.to.0)
 
-row-is-requires : tie.Need-row-is-requires
-row-is-requires c κs = omega (arith, (there c.before).linked)
-
-cast-t13 : tie.Need-overflow-cast-t13
-cast-t13 c = search rules
-
-returns : tie.Need-returns
-returns c = differs _ _ _ _ _ _ (there c.before.before.before.before) _ c.before.before.row-is.ensures (not-true _ c.before.if1.true)
-
-element-digest-requires : tie.Need-element-digest-requires
-element-digest-requires c κs = omega (arith, (there c.before.before.before).sized, size_short c.before.before.before.before.before.hop.result.to.0)
-
-add-t11 : tie.Need-overflow-add-t11
-add-t11 c = search rules
-
-returns-2 : tie.Need-returns-2
-returns-2 c =
-    agrees _ _ _ _ _ _ (there c.before.before.before.before) _ c.before.before.row-is.ensures _ c.element-digest.ensures (not-false _ c.before.if1.false)
-
-pub take-hop-spec : {M : Type 1} → statement M
-take-hop-spec =
-    tie.close
-    (tie.spec
-    hop-requires
-    component-at-requires
-    cast-row-is
-    add-row-is
-    row-is-requires
-    cast-t13
-    returns
-    element-digest-requires
-    add-t11
-    returns-2)
+pub returns : goal.returns
+returns c =
+    agrees _ _ _ _ _ _ (there (goal.at.returns c).After-component_at-component) _ c.row_is.ensures _ c.element_digest.ensures (c.if-not-row_is.false)

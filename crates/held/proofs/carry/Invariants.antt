@@ -1,0 +1,17 @@
+-- `held::carry` meets its contract: the carry from row c up, with what moves, comes to the same at each turn.
+use mathlib.Core.Path.{◌≡◌, refl, sym, ap, ◌∙◌}
+use Prim.Native.Nat.{◌-◌}
+use native.Mathlib.Omega.{arith}
+use lib.ListN.{length, length-set}
+use Rattle.lists.specs.Bytes.{zeros}
+use Rattle.rules.specs.Numbers.{v1}
+use Rattle.held.specs.Holding.{rows_of}
+use Rattle.held.proofs.Turns.{is_used, zero_digest, is_free, rows_long, rows_set, carried_from, carry_stop, carry_turn, carry_end}
+use Rattle.std.proofs.Common.{rules}
+use Rattle.held.proofs.carry.Given as goal
+
+abbrev pub invariant-loop-c : goal.invariant-loop-c
+invariant-loop-c l = (length (rows_of l.rows) ≡ v1.levels) × (carried_from l.initial.c l.initial.bits (rows_of l.initial.rows) l.initial.moving.bytes ≡ carried_from l.c l.bits (rows_of l.rows) l.moving.bytes)
+
+abbrev pub decreases-loop-c : goal.decreases-loop-c
+decreases-loop-c l = v1.levels - l.c
