@@ -2,7 +2,7 @@
 ghost use Rattle.std.specs.Prelude.{◌≡◌};
 ghost use Rattle.hash.specs.Hash.{hash_of};
 ghost use Rattle.rules.specs.Numbers.{v1};
-ghost use Rattle.rules.specs.Dispute.{dispute as messagesOf};
+ghost use Rattle.rules.specs.Dispute.{dispute as messages_of};
 ghost use Rattle.rules.specs.Calls.{showing, dispute_call};
 ghost use Rattle.dispute.specs.Answers.{outcome};
 ghost use Rattle.dispute.specs.Ready.{Ready};
@@ -36,7 +36,7 @@ fn settle(
     out2: &mut [u8],
 ) -> Answer
     requires { Ready entry1.now proof1.now entry2.now proof2.now i.0 n.0 out1.old out2.old }
-    ensures { outcome result out1.new out2.new ≡ showing (messagesOf v1 i.0 n.0 entry1.now entry2.now proof1.now proof2.now) out1.old out2.old }
+    ensures { outcome result out1.new out2.new ≡ showing (messages_of v1 i.0 n.0 entry1.now entry2.now proof1.now proof2.now) out1.old out2.old }
 {
     let spot = find(proof1, proof2, i, n);
     let Spot::At { element, offset } = spot else {

@@ -4,7 +4,7 @@ ghost use Rattle.std.proofs.Math.Option.{some};
 ghost use Rattle.lists.specs.Bytes.{same};
 ghost use Rattle.rules.specs.Numbers.{v1};
 ghost use Rattle.rules.specs.Messages.{entry_msg, size};
-ghost use Rattle.rules.specs.Dispute.{unlike, messages as messagesAt, message_room};
+ghost use Rattle.rules.specs.Dispute.{unlike, messages as messages_at, message_room};
 ghost use Rattle.rules.specs.Calls.{over, showing};
 ghost use Rattle.dispute.specs.Answers.{outcome};
 
@@ -46,7 +46,7 @@ pub(crate) fn show_elements(
 ) -> Answer
     requires j_in_bounds { (at + size v1 j.0 ≤ length proof1.now) × (at + size v1 j.0 ≤ length proof2.now) }
     requires message_room_in_bounds { (message_room ≤ length out1.old) × (message_room ≤ length out2.old) }
-    ensures { outcome result out1.new out2.new ≡ showing (messagesAt v1 proof1.now proof2.now (some (j.0, at))) out1.old out2.old }
+    ensures { outcome result out1.new out2.new ≡ showing (messages_at v1 proof1.now proof2.now (some (j.0, at))) out1.old out2.old }
 {
     let head = messages::element_head(j);
     let one = component_at(proof1, at, j);

@@ -5,7 +5,7 @@ ghost use Rattle.std.specs.Prelude.{◌≡◌, ◌+◌, ◌≤◌, length};
 ghost use Rattle.rules.specs.Numbers.{v1};
 ghost use Rattle.rules.specs.Paths.{path};
 ghost use Rattle.rules.specs.Messages.{size, total};
-ghost use Rattle.rules.specs.Dispute.{or_else, nearest, differing as differingPart};
+ghost use Rattle.rules.specs.Dispute.{or_else, nearest, differing as differing_part};
 ghost use Rattle.rules.specs.Spots.{differs_at};
 ghost use Rattle.place.specs.Places.{spot_of, part_is, cut};
 
@@ -70,7 +70,7 @@ pub fn find(first: &[u8], second: &[u8], i: Position, n: Length) -> Spot
 
 // Where the differing component nearest n stands in both proofs; of size 0 if none differs, a length is wrong or the positions are refused.
 pub fn differing_at(first: &[u8], second: &[u8], i: Position, n: Length) -> Part
-    ensures { part_is result ≡ differingPart v1 i.0 n.0 first.now second.now }
+    ensures { part_is result ≡ differing_part v1 i.0 n.0 first.now second.now }
 {
     if !path::asked(i, n) {
         return Part { from: 0, size: 0 };
@@ -94,7 +94,7 @@ pub fn differing_at(first: &[u8], second: &[u8], i: Position, n: Length) -> Part
 
 // The differing component nearest n, as a part of the second proof; nothing is copied.
 pub fn differing<'a, 'b>(first: &'a [u8], second: &'b [u8], i: Position, n: Length) -> &'b [u8]
-    ensures { result.now ≡ cut (differingPart v1 i.0 n.0 first.now second.now) second.now }
+    ensures { result.now ≡ cut (differing_part v1 i.0 n.0 first.now second.now) second.now }
 {
     let part = differing_at(first, second, i, n);
     let from = part.from;

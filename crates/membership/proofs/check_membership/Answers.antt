@@ -31,17 +31,17 @@ asked : (c : Else-not-asked) → let a = c.args in between v1 a.i.0 a.n.0 ≡ tr
 asked c = sym c.asked.ensures ∙ c.if-not-asked.false
 
 counted : (c : After-membership_len) → let a = c.args in c.membership_len.result ≡ total v1 (path a.i.0 a.n.0)
-counted c = rw (asked c) at c.membership_len.ensures
+counted c = rw (asked (goal.at.After-membership_len c).Else-not-asked) at c.membership_len.ensures
 
 sized : (c : Else-proof-membership_len) → let a = c.args in length a.proof.now ≡ total v1 (path a.i.0 a.n.0)
-sized c = c.if-proof-membership_len.false ∙ counted c
+sized c = c.if-proof-membership_len.false ∙ counted (goal.at.Else-proof-membership_len c).After-membership_len
 
 -- the first component is there, with its row 0
 room : (c : Else-proof-membership_len) → let a = c.args in 0 + size v1 a.i.0 ≤ length a.proof.now
 room c = let a = c.args in omega (arith, sized c, total_first v1 a.i.0 a.n.0)
 
 whole : (c : After-component_at-first) → length c.component_at-first.result.now ≡ size v1 c.args.i.0
-whole c = ap length c.component_at-first.ensures ∙ part_length _ 0 _ (room c)
+whole c = ap length c.component_at-first.ensures ∙ part_length _ 0 _ (room (goal.at.After-component_at-first c).Else-proof-membership_len)
 
 compared : (c : After-row_is) →
     let a = c.args in

@@ -71,5 +71,5 @@ returns-in_default c = there (goal.at.returns-in_default c).After-find-spot (now
 
 pub returns : goal.returns
 returns c =
-    let g = c.spot-1.given in
-    ap (λ (k : ℕ). record { from = g.0.1.0; size = k }) c.component_len.ensures ∙ there (goal.at.returns c).After-find-spot (ap spot_of g.1)
+    let g = c.in-At in
+    ap (λ (k : ℕ). record { from = g.offset; size = k }) c.component_len.ensures ∙ there (goal.at.returns c).After-find-spot (ap spot_of g.is)
