@@ -138,7 +138,7 @@ module _ {n : ℕ} {p D : Bytes} {h₀ h : Held} {o k : ℕ} (s : Stands n p D h
         )
 
     -- a bad hop decides
-    pub refuses : {q : Step} → q ≡ hop_at n p h o → (tag_of the_type q.verdict ≡ 1) ⊎ (tag_of the_type q.verdict ≡ 2)
+    pub refuses : {q : Step} → q ≡ hop_at n p h o → (q.verdict ≡ Good → ⊥)
         → advance_answer h₀ (advance_walk hash_of v1 h₀ (hops h₀.count n) p 0 D 0) ≡ record { answer = answer_of (verdict_by q.verdict k); held = h₀ }
     unfolding judged
     refuses {q} e bad = ap (advance_answer h₀) (s.walk ∙ next_hop n p D h o k b ∙ ap (λ (x : Step). judged x.verdict k w) (sym e)) ∙ go q.verdict bad
@@ -146,9 +146,8 @@ module _ {n : ℕ} {p D : Bytes} {h₀ h : Held} {o k : ℕ} (s : Stands n p D h
         w : Verdict (ℕ × Held)
         w = advance_walk hash_of v1 (hop_at n p h o).state (hops (toward h n) n) p (o + size v1 (toward h n)) D (suc k)
 
-        go : (v : Hop) → (tag_of the_type v ≡ 1) ⊎ (tag_of the_type v ≡ 2) → advance_answer h₀ (judged v k w) ≡ record { answer = answer_of (verdict_by v k); held = h₀ }
-        go Good (inl t) = absurd (omega arith)
-        go Good (inr t) = absurd (omega arith)
+        go : (v : Hop) → (v ≡ Good → ⊥) → advance_answer h₀ (judged v k w) ≡ record { answer = answer_of (verdict_by v k); held = h₀ }
+        go Good t = absurd (t refl)
         go (Row j c) t = refl
         go (Link j c) t = refl
 
