@@ -1,12 +1,12 @@
 -- The numbers that a store has a proof for: what a caller knows once they are found to fit the count, and what the refusals say.
 use mathlib.Core.Path.{◌≡◌, sym, ◌∙◌}
-use mathlib.Core.Bool.{Bool, true, false, cond, not, ◌&&◌, and-eq-true_iff}
+use mathlib.Core.Bool.{Bool, true, false, cond, ◌&&◌, and-eq-true_iff}
 use Prim.Native.Nat.{ℕ, ◌≤◌}
 use native.Mathlib.Nat.{le_trans}
 use native.Mathlib.Omega.{arith}
 use lib.Dec.{leb}
 use lib.ListN.{length}
-use borrow.Author.Tests.{leb-true, le-leb, not-true, not-false}
+use borrow.Author.Tests.{leb-true, le-leb}
 use Rattle.lists.specs.Bytes.{Bytes}
 use Rattle.rules.specs.Numbers.{v1, limit}
 use Rattle.rules.specs.Store.{place, count_of, damaged}
@@ -27,9 +27,9 @@ pub record Covers (s : Bytes) (i n : ℕ) : Type 0 where
   pub fits : (j : ℕ) → j ≤ n → place v1 j ≤ length s
 
 module _ (s : Bytes) (m : Length) (known : InOrder s m) (i n : ℕ) (r : Bool) (told : r ≡ covered m.0 i n) where
-  pub covers : not r ≡ false → Covers s i n
+  pub covers : r ≡ true → Covers s i n
   covers h =
-      let t : covered m.0 i n ≡ true = sym told ∙ not-false r h in
+      let t : covered m.0 i n ≡ true = sym told ∙ h in
       let a = (and-eq-true_iff (leb i n) (leb n m.0)).0 t in
       let high = leb-true n m.0 a.1 in record {
         sound = known.sound;
@@ -39,8 +39,8 @@ module _ (s : Bytes) (m : Length) (known : InOrder s m) (i n : ℕ) (r : Bool) (
         fits = λ j g. le_trans (place_mono v1 j m.0 (le_trans g high)) known.fits;
       }
 
-  pub uncovered : not r ≡ true → covered (count_of v1 s) i n ≡ false
-  uncovered h = rw known.counted (sym told ∙ not-true r h)
+  pub uncovered : r ≡ false → covered (count_of v1 s) i n ≡ false
+  uncovered h = rw known.counted (sym told ∙ h)
 
 -- The length of a path is what is told, where the numbers fit.
 pub size_told : {b : Bool} {m t : ℕ} → m ≡ cond b t 0 → b ≡ true → m ≡ t
