@@ -7,8 +7,7 @@ use lib.ListN.{length}
 use borrow.Author.Tests.{eq-eqb, ne_eqb, le-leb, lt-leb}
 use Rattle.lists.specs.Bytes.{Bytes}
 use Rattle.dictionary.specs.Handles.{rows_of, rising_from, listed}
-use Rattle.handles.proofs.list.listed.Statement.{statement}
-use Rattle.handles.proofs.list.listed.Tie as tie
+use Rattle.handles.proofs.list.listed.Goals as goal
 
 broken : (s : Bytes) → length s % 32 ≢ 0 → false ≡ listed s
 unfolding listed
@@ -22,17 +21,14 @@ few : (s : Bytes) → length s % 32 ≡ 0 → length s / 32 ≤ 1000 → rising_
 unfolding listed
 few s e h = rw (eq-eqb (length s % 32) 0 e, le-leb (length s / 32) 1000 h)
 
-returns : tie.Need-returns
-returns c = broken _ c.if1.true
+pub returns-then-handles-ne0 : goal.returns-then-handles-ne0
+returns-then-handles-ne0 c = broken _ c.if-handles-ne0.true
 
-returns-2 : tie.Need-returns-2
-returns-2 c = many _ c.before.if1.false c.if2.true
+pub returns-then-handles-gt-MOST : goal.returns-then-handles-gt-MOST
+returns-then-handles-gt-MOST c = many _ c.if-handles-ne0.false c.if-handles-gt-MOST.true
 
-rising-requires : tie.Need-rising-requires
-rising-requires c κs = c.before.if1.false
+pub rising-requires : goal.rising-requires
+rising-requires c = c.if-handles-ne0.false
 
-returns-3 : tie.Need-returns-3
-returns-3 c = c.rising.ensures ∙ few _ c.before.before.if1.false c.before.if2.false
-
-pub listed-spec : {M : Type 1} → statement M
-listed-spec = tie.close (tie.spec returns returns-2 rising-requires returns-3)
+pub returns : goal.returns
+returns c = c.rising.ensures ∙ few _ c.if-handles-ne0.false c.if-handles-gt-MOST.false
