@@ -4,14 +4,13 @@ use mathlib.Core.List.{◌++◌}
 use Prim.Native.Nat.{ℕ, ◌+◌, ◌%◌, ◌≤◌}
 use native.Mathlib.Nat.{zero-add}
 use native.Mathlib.Omega.{arith}
-use borrow.Author.Rules.{rules}
 use lib.Dec.{lit<}
 use lib.ListN.{length}
 use Rattle.lists.specs.Bytes.{Bytes, zeros}
 use Rattle.standin.specs.Stirred.{stirred, stirred_append, hash_stirred}
 use Rattle.standin.specs.Joined.{joined_of, joined_short, joined_long}
-use Rattle.standin.proofs.joined.Statement.{statement}
-use Rattle.standin.proofs.joined.Tie as tie
+use Rattle.std.proofs.Common.{rules}
+use Rattle.standin.proofs.joined.Goals as goal
 
 both : (a b one two : Bytes) → length a + length b ≤ 65536 → one ≡ stirred 0 zeros a → two ≡ stirred (length a % 32) one b → two ≡ joined_of a b
 both a b one two h e f =
@@ -22,26 +21,13 @@ both a b one two h e f =
     ∙ sym (hash_stirred (a ++ b))
     ∙ sym (joined_short a b h)
 
-returns : tie.Need-returns
-returns c = let a = c.before.before.before.args in sym (joined_long a.first.now a.second.now (omega arith))
+pub returns-then-first-gt65536 : goal.returns-then-first-gt65536
+returns-then-first-gt65536 c = let a = c.args in sym (joined_long a.first.now a.second.now (omega arith))
 
-sub-if2 : tie.Need-overflow-sub-if2
-sub-if2 c = search rules
+pub returns-then-first-second : goal.returns-then-first-second
+returns-then-first-second c = let a = c.args in sym (joined_long a.first.now a.second.now (omega arith))
 
-returns-2 : tie.Need-returns-2
-returns-2 c = let a = c.before.before.before.before.args in sym (joined_long a.first.now a.second.now (omega arith))
-
-stir-requires : tie.Need-stir-requires
-stir-requires c κs = search rules
-
-stir-requires-2 : tie.Need-stir-requires-2
-stir-requires-2 c κs = search rules
-
-returns-3 : tie.Need-returns-3
-returns-3 c =
-    let a = c.before.before.before.before.before.before.args in
-    both a.first.now a.second.now _ _ (omega arith) c.before.stir.ensures c.stir2.ensures
-
-pub joined-spec : {M : Type 1} → statement M
-joined-spec =
-    tie.close (tie.spec returns sub-if2 returns-2 stir-requires stir-requires-2 returns-3)
+pub returns : goal.returns
+returns c =
+    let a = c.args in
+    both a.first.now a.second.now _ _ (omega arith) c.stir-one.ensures c.stir-both.ensures

@@ -1,0 +1,49 @@
+-- `lookup::check_presence` meets its contract: each return fixes the tests of the definition up to it.
+use mathlib.Core.Path.{◌≡◌, refl, sym, ap, ◌∙◌}
+use mathlib.Core.Bool.{false}
+use native.Mathlib.Omega.{arith}
+use borrow.Author.Tests.{lt-ltb, le-ltb, eq-eqb, ne_eqb, not-true, not-false}
+use Rattle.lists.specs.Bytes.{Bytes, same}
+use Rattle.hash.specs.Hash.{hash_of}
+use Rattle.rules.specs.Numbers.{entry_limit}
+use Rattle.dictionary.specs.Handles.{handle, rows_of}
+use Rattle.dictionary.specs.Trie.{climbed, shown_full}
+use Rattle.dictionary.specs.Calls.{key_long}
+use Rattle.dictionary.specs.Answers.{presence_is}
+use Rattle.lookup.specs.Told.{verdict_number}
+use Rattle.std.proofs.Common.{rules}
+use Rattle.lookup.proofs.check_presence.Goals as goal
+use Rattle.lookup.proofs.check_presence.Goals.{After-leads_to, Else-key-gt-KEY_LIMIT}
+
+short : (c : Else-key-gt-KEY_LIMIT) → key_long c.args.key.now ≡ false
+short c = le-ltb entry_limit _ c.if-key-gt-KEY_LIMIT.false
+
+told : (c : After-leads_to) → let a = c.args in same (shown_full hash_of (handle hash_of a.key.now) (rows_of a.proof.now)) a.root.bytes ≡ c.leads_to.result
+told c =
+    let a = c.args in
+    let k = c.handle_for-handle.result.bytes in
+    let p = rows_of a.proof.now in
+    sym (c.leads_to.ensures
+    ∙ ap (λ (x : Bytes). same (climbed hash_of 256 k p x) a.root.bytes) c.leaf_of.ensures
+    ∙ ap (λ (x : Bytes). same (shown_full hash_of x p) a.root.bytes) c.handle_for-handle.ensures)
+
+pub returns-then-key-gt-KEY_LIMIT : goal.returns-then-key-gt-KEY_LIMIT
+unfolding verdict_number
+returns-then-key-gt-KEY_LIMIT c = sym (presence_is hash_of _ _ _ (lt-ltb entry_limit _ c.if-key-gt-KEY_LIMIT.true) refl refl)
+
+pub returns-then-proof-ne-LONGEST : goal.returns-then-proof-ne-LONGEST
+unfolding verdict_number
+returns-then-proof-ne-LONGEST c = sym (presence_is hash_of _ _ _ (short (goal.at.returns-then-proof-ne-LONGEST c).Else-key-gt-KEY_LIMIT) (ne_eqb _ _ c.if-proof-ne-LONGEST.true) refl)
+
+pub leads_to-requires : goal.leads_to-requires
+leads_to-requires c = let e = c.if-proof-ne-LONGEST.false in record { whole = omega arith; most = omega arith }
+
+pub returns-then-not-leads_to : goal.returns-then-not-leads_to
+unfolding verdict_number
+returns-then-not-leads_to c =
+    sym (presence_is hash_of _ _ _ (short (goal.at.returns-then-not-leads_to c).Else-key-gt-KEY_LIMIT) (eq-eqb _ _ c.if-proof-ne-LONGEST.false) (told (goal.at.returns-then-not-leads_to c).After-leads_to ∙ c.if-not-leads_to.true))
+
+pub returns : goal.returns
+unfolding verdict_number
+returns c =
+    sym (presence_is hash_of _ _ _ (short (goal.at.returns c).Else-key-gt-KEY_LIMIT) (eq-eqb _ _ c.if-proof-ne-LONGEST.false) (told (goal.at.returns c).After-leads_to ∙ c.if-not-leads_to.false))

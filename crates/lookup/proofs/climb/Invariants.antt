@@ -1,0 +1,14 @@
+-- `lookup::climb` meets its contract: at each turn the node at the depth reached.
+use mathlib.Core.Path.{◌≡◌, ap, ◌∙◌}
+use Prim.Native.Nat.{suc, ◌-◌, ◌≤◌}
+use native.Mathlib.Omega.{arith}
+use Rattle.hash.specs.Hash.{hash_of}
+use Rattle.lookup.specs.Climbing.{depth_of, node_at, at_bottom, up_one}
+use Rattle.std.proofs.Common.{rules}
+use Rattle.lookup.proofs.climb.Given as goal
+
+abbrev pub invariant-loop-depth : goal.invariant-loop-depth
+invariant-loop-depth l = (l.t ≤ l.depth) × (l.depth ≤ depth_of l.proof) × (l.own.bytes ≡ node_at l.key.bytes l.proof l.initial.own.bytes l.depth)
+
+abbrev pub decreases-loop-depth : goal.decreases-loop-depth
+decreases-loop-depth l = l.depth

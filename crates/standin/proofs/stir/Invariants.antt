@@ -1,0 +1,17 @@
+-- `standin::stir` meets its contract: what is left is stirred into what there is.
+use mathlib.Core.Path.{◌≡◌, refl, sym, ◌∙◌}
+use Prim.Native.Nat.{ℕ, ◌+◌, ◌-◌, ◌%◌, ◌≤◌, ◌<◌}
+use native.Mathlib.Omega.{arith}
+use native.Mathlib.Numerals.{add-one}
+use lib.ListN.{length, get_or, drop, drop_of_length-le, length-set}
+use lib.Seq.{drop-cons}
+use Rattle.lists.specs.Bytes.{Bytes}
+use Rattle.standin.specs.Stirred.{xor_at, stirred}
+use Rattle.std.proofs.Common.{rules}
+use Rattle.standin.proofs.stir.Given as goal
+
+abbrev pub invariant-loop-i : goal.invariant-loop-i
+invariant-loop-i l = (l.i ≤ length l.s) × (l.k < 32) × (length l.out ≡ 32) × (stirred l.at l.initial.out l.s ≡ stirred l.k l.out (drop l.i l.s))
+
+abbrev pub decreases-loop-i : goal.decreases-loop-i
+decreases-loop-i l = length l.s - l.i
