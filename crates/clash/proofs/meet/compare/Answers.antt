@@ -8,7 +8,7 @@ use Rattle.std.proofs.Common.{rules}
 use Rattle.clash.proofs.meet.compare.Goals as goal
 
 pub returns-then-same : goal.returns-then-same
-returns-then-same c = record { told = sym (ap (λ (t : Bool). cond t (meet_of c.args.below) (two c.args.t2 c.args.t3)) (sym c.same.ensures ∙ c.if-same.true)); fits = c.requires }
+returns-then-same c = record { told = sym (ap (λ (t : Bool). cond t (meet_of c.args.below) (two c.args.one c.args.other)) (sym c.same.ensures ∙ c.if-same.true)); fits = c.requires }
 
 pub returns : goal.returns
-returns c = record { told = sym (ap (λ (t : Bool). cond t (meet_of c.args.below) (two c.args.t2 c.args.t3)) (sym c.same.ensures ∙ c.if-same.false)); fits = omega arith }
+returns c = record { told = sym (ap (λ (t : Bool). cond t (meet_of c.args.below) (two c.args.one c.args.other)) (sym c.same.ensures ∙ c.if-same.false)); fits = omega arith }

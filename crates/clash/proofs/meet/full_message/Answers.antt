@@ -23,7 +23,7 @@ pub returns : goal.returns
 returns c =
     let e = c.requires.0 in
     record {
-      told = ap lone (take_all 65 c.crossing-first.result (omega (arith, c.crossing-first.type-inv.1.0.1))
+      told = ap lone (take_all 65 c.crossing-first.result (omega (arith, c.crossing-first.type_inv.1.0.1))
           ∙ at_inner c.args.key.bytes c.args.presence.now _ _ _ _ c.args.depth (full_sized _ e) (omega (arith, c.if-depth-eq256.false, c.requires.1))
           c.leaf_of.ensures c.climb-own.ensures c.sibling_at.ensures c.crossing-first.ensures);
       fits = omega arith;

@@ -10,7 +10,7 @@ use Rattle.clash.proofs.meet.leaf_message.Goals as goal
 use Rattle.clash.proofs.meet.leaf_message.Goals.{Start}
 
 key_long_lem : (c : Start) → length c.args.key.bytes ≡ 32
-key_long_lem c = mapped_long c.args.key.bytes _ (search rules)
+key_long_lem c = search rules
 
 pub put-requires : goal.put-requires
 put-requires c = (omega arith, omega (arith, key_long_lem (goal.at.put-requires c).Start))

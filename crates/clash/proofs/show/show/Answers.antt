@@ -9,10 +9,10 @@ use Rattle.clash.proofs.show.show.Goals as goal
 use Rattle.clash.proofs.show.show.Goals.{Start}
 
 first_long : (c : Start) → length c.args.found.first ≡ 65
-first_long c = mapped_long c.args.found.first _ (search rules)
+first_long c = search rules
 
 second_long : (c : Start) → length c.args.found.second ≡ 65
-second_long c = mapped_long c.args.found.second _ (search rules)
+second_long c = search rules
 
 pub put-requires : goal.put-requires
 put-requires c = (omega (arith, c.requires.1), omega (arith, first_long (goal.at.put-requires c).Start))
