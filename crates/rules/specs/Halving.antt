@@ -12,8 +12,8 @@ use Rattle.std.proofs.Math.Pow.{pow_pos}
 use Rattle.std.specs.Int.Count.{count_trailing_zeros, under}
 use Rattle.std.proofs.lemmas.List.{length-map}
 use Rattle.rules.specs.Numbers.{Version}
-use Rattle.rules.specs.Paths.{tz, level, hops, after, path, path_after}
-use Rattle.rules.specs.Messages.{size, total}
+use Rattle.rules.specs.Paths.{tz, level, after, path, path_after}
+use Rattle.rules.specs.Messages.{total}
 use Rattle.rules.specs.Hops.{level_below, Hop, Best, level_best, level_max, hops_ind, path_end, after_step, after_end, split_mod, join_mod, tz_divides, tz_max, tz_power}
 
 -- ---- a path from an even element is a path at half the size, doubled

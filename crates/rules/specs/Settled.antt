@@ -16,7 +16,6 @@ use Rattle.rules.specs.Checking.{accepted, digest_at, walk, member}
 use Rattle.rules.specs.Dispute.{unlike, or_else, nearest, messages, dispute}
 use Rattle.rules.specs.Acceptance.{accepts, walk_ended, walk_hopped}
 use Rattle.rules.specs.Verdicts.{element_inj}
-use Rattle.rules.specs.Hops.{end}
 
 -- the published forms of two messages: of one element, or of two entries
 pub data Published (v : Version) : Bytes → Bytes → Type 0 where

@@ -1,5 +1,5 @@
 -- `block::compress` meets its contract: sixteen rounds after sixteen, each with its words ready.
-use Rattle.std.proofs.Common.{arith, rules}
+use Rattle.std.proofs.Common.{arith}
 use Rattle.block.proofs.Scheduling.{reached_first, reached_next, sixteen, compressed}
 use Rattle.block.proofs.compress.Goals as goal
 

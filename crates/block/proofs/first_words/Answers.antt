@@ -1,5 +1,5 @@
 -- `block::first_words` meets its contract: each turn of the loop stores the schedule's next word.
-use Rattle.std.proofs.Common.{◌≡◌, ◌-◌, ◌≤◌, length, take, arith, length-set, rules}
+use Rattle.std.proofs.Common.{arith, length-set, rules}
 use Rattle.fips.specs.Sha256.{schedule}
 use Rattle.block.proofs.Scheduling.{step_load, loaded}
 use Rattle.block.proofs.first_words.Goals as goal

@@ -1,5 +1,5 @@
 -- `block::last_rounds` meets its contract: sixteen times one round more.
-use Rattle.std.proofs.Common.{refl, rules}
+use Rattle.std.proofs.Common.{refl}
 use Rattle.fips.specs.Sha256.{K}
 use Rattle.block.specs.Places.{row, turned, turned_then}
 use Rattle.block.proofs.last_rounds.Goals as goal

@@ -1,5 +1,4 @@
 -- `block::mix` meets its contract: the sums are the contract's, one call after another.
-use Rattle.std.proofs.Common.{rules}
 use Rattle.block.proofs.mix.Goals as goal
 
 pub returns : goal.returns

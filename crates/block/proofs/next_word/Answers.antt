@@ -1,6 +1,5 @@
 -- `block::next_word` meets its contract: the word at one place is replaced.
 use Rattle.block.proofs.Scheduling.{replaced}
-use Rattle.std.proofs.Common.{rules}
 use Rattle.block.proofs.next_word.Goals as goal
 
 pub returns : goal.returns

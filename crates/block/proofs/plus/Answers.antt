@@ -1,5 +1,4 @@
 -- `block::plus` meets its contract: eight sums.
-use Rattle.std.proofs.Common.{rules}
 use Rattle.block.proofs.plus.Goals as goal
 
 pub returns : goal.returns

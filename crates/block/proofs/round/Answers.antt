@@ -1,5 +1,4 @@
 -- `block::round` meets its contract: the sums are those of T1 and T2, T1's in another order.
-use Rattle.std.proofs.Common.{rules}
 use Rattle.fips.specs.Sha256.{Σ1, ch, round, T1, T2}
 use Rattle.block.proofs.Choosing.{reordered}
 use Rattle.block.proofs.round.Goals as goal

@@ -1,5 +1,5 @@
 -- `block::third_rounds` meets its contract: sixteen times one turn more.
-use Rattle.std.proofs.Common.{refl, rules}
+use Rattle.std.proofs.Common.{refl}
 use Rattle.fips.specs.Sha256.{K}
 use Rattle.block.specs.Places.{row, no_turn, turn_then}
 use Rattle.block.proofs.third_rounds.Goals as goal

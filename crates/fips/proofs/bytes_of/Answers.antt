@@ -1,6 +1,5 @@
 -- `fips::bytes_of` meets its contract: the words lie one behind the other and fill the digest.
 use Rattle.fips.proofs.Laying.{laid}
-use Rattle.std.proofs.Common.{rules}
 use Rattle.fips.proofs.bytes_of.Goals as goal
 
 pub returns : goal.returns

@@ -1,7 +1,6 @@
 -- `fips::lay` meets its contract: four stores, one place after another.
 use lib.ListN.{length-set}
 use Rattle.fips.proofs.Laying.{stored}
-use Rattle.std.proofs.Common.{rules}
 use Rattle.fips.proofs.lay.Goals as goal
 
 pub returns : goal.returns
