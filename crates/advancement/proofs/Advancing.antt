@@ -1,13 +1,11 @@
 -- The walk of an advancement, hop by hop: where it stands, what a good hop makes of it, and what ends it.
 use mathlib.Core.Path.{◌≡◌, refl, sym, ap, ap₂, ◌∙◌}
-use mathlib.Core.Logic.{◌⊎◌, inl, inr}
 use mathlib.Core.Bool.{Bool, true, false, cond}
 use mathlib.Core.List.{List}
 use Prim.Native.Nat.{ℕ, suc, ◌+◌, ◌-◌, ◌/◌, ◌^◌, ◌≤◌, ◌<◌}
 use native.Mathlib.Nat.{zero-add}
 use native.Mathlib.Numerals.{add-one}
 use native.Mathlib.Omega.{arith}
-use denote.Enum.Declared.{tag_of}
 use lib.Pow.{pow_pos, lt_of_le_ones}
 use lib.ListN.{length, drop}
 use Rattle.lists.specs.Bytes.{Bytes, same}
@@ -29,7 +27,6 @@ use Rattle.advancement.specs.declared.Hop.{Hop}
 use Rattle.advancement.specs.declared.Hop.TheVariants.{Good, Row, Link}
 use Rattle.messages.specs.Parts.{part_length}
 use Rattle.advancement.specs.Advancing.{answer_of, Step, Ready, hop_by, hop_of, verdict_by}
-use Rattle.advancement.specs.contracts.Hop.{the_type}
 
 -- what a hop's verdict makes of the walk that goes on from it, with k hops good before it
 judged : Hop → ℕ → Verdict (ℕ × Held) → Verdict (ℕ × Held)

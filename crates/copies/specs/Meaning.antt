@@ -1,14 +1,14 @@
 -- What each answer says of two stores in order: `Shows`, a line for each. The answer that the definition finds says what holds (`shown`), and one that says
 -- what holds is the one that it finds (`only`): of N and B, that they are the least.
-use Rattle.std.specs.Prelude.{◌≡◌, refl, ◌≢◌, Bool, true, false, cond, ℕ, zero, ◌+◌, ◌≤◌, ◌<◌, min, leb, ltb, eqb, length, get_or}
+use Rattle.std.specs.Prelude.{◌≡◌, refl, ◌≢◌, Bool, true, false, ℕ, ◌+◌, ◌≤◌, ◌<◌, min, leb, ltb, length, get_or}
 use Rattle.std.proofs.Common.{ap, ◌∙◌, zero-le, le_trans, arith, lt-ltb, le-ltb, ltb-false, ltb-true, le-leb, leb-true, leb-false, eqb-true}
 use Rattle.std.proofs.Math.Nat.{min-le_left, min-le_right, min-eq_left, min-eq_right}
 use Rattle.std.proofs.Math.Decide.{dec_lt, dec_le}
 use Rattle.std.proofs.lemmas.Bool.{lt-leb, eqb-false}
-use Rattle.lists.specs.Bytes.{Bytes, same}
+use Rattle.lists.specs.Bytes.{Bytes}
 use Rattle.lists.specs.Same.{same_true, same_false, same_eq}
 use Rattle.rules.specs.Numbers.{Version}
-use Rattle.rules.specs.Store.{place, damaged, log_of, count_of, fields_size, fields_of}
+use Rattle.rules.specs.Store.{damaged, log_of, count_of, fields_size, fields_of}
 use Rattle.rules.specs.Places.{place_fits, count_le}
 use Rattle.rules.specs.Damage.{ordered}
 use Rattle.rules.specs.Stored.{fields_length}

@@ -14,7 +14,6 @@ use Rattle.rules.specs.Verdicts.{accepted_some, between_true}
 use Rattle.rules.specs.Acceptance.{accepts}
 use Rattle.rules.specs.Spots as spots
 use Rattle.membership.specs.Verdicts.{verdict_of}
-use Rattle.membership.specs.declared.Verdict.{Verdict as Found}
 use Rattle.dispute.specs.Answers.{finding_of, outcome}
 use Rattle.dispute.specs.Ready.{Ready}
 use Rattle.dispute.specs.declared.settle.Answer.{Answer}

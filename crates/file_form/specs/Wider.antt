@@ -1,6 +1,6 @@
 -- "A FILE FROM A4 STILL READS, SINCE IT HOLDS USED ROWS ONLY" (02, A7), for any hash and for versions that differ in their levels alone: every file whose count is
 -- at most the lower limit reads or is refused as it was, and gives the same state, further rows free; and every state up to that limit has the file that it had.
-use Rattle.std.specs.Prelude.{◌≡◌, Bool, List, [], ◌∷◌, ◌++◌, leb, ltb, eqb, length, take, drop, replicate}
+use Rattle.std.specs.Prelude.{◌≡◌, Bool, List, [], ◌∷◌, ◌++◌, ltb, eqb, length, take, drop, replicate}
 use Rattle.std.proofs.Math.Path.{refl}
 use Rattle.std.proofs.Common.{sym, ap, ◌∙◌, zero-add, le_trans, arith}
 use Rattle.std.proofs.Math.Bool.{true, false, cond}
@@ -11,7 +11,7 @@ use Rattle.lists.specs.Bytes.{Bytes, be, same, zeros}
 use Rattle.rules.specs.Numbers.{Version, limit}
 use Rattle.rules.specs.Refusals.{done, state_broken}
 use Rattle.rules.specs.Held.{Held, odd, held_zeros, is_in_order}
-use Rattle.rules.specs.Calls.{HeldFound, held_found, gives}
+use Rattle.rules.specs.Calls.{HeldFound, held_found}
 use Rattle.rules.specs.Wider.{wider, widened, limit_wider, order_wider}
 use Rattle.file_form.specs.Form.{hld, head_size, head, in_use, file_of, file_size, mark_in, version_in, count_in, rows_in, state_in}
 use Rattle.file_form.specs.Refusals.{file_short, mark_wrong, version_wrong, length_wrong}

@@ -1,6 +1,6 @@
 -- The number for each answer, with the file's size or the state that is read, and back: telling loses nothing.
 use Rattle.std.specs.Prelude.{◌≡◌, refl, cond, ℕ, eqb}
-use Rattle.std.proofs.Common.{ap, ap₂}
+use Rattle.std.proofs.Common.{ap₂}
 use Rattle.rules.specs.Refusals.{done, state_broken, output_short}
 use Rattle.rules.specs.Calls.{Answer, gives, refuses, HeldFound, held_found}
 use Rattle.held.specs.Holding.{holds, held_from, held_back}

@@ -3,7 +3,7 @@ use mathlib.Core.Path.{◌≡◌, refl, sym, ap, ◌∙◌}
 use mathlib.Core.Bool.{Bool, true, false, cond}
 use Prim.Native.Nat.{ℕ}
 use native.Mathlib.Omega.{arith}
-use borrow.Author.Tests.{eq-eqb, ne_eqb, not-true, not-false}
+use borrow.Author.Tests.{eq-eqb, ne_eqb}
 use lib.Dec.{eqb}
 use lib.ListN.{length}
 use Rattle.lists.specs.Bytes.{Bytes}
@@ -18,7 +18,6 @@ use Rattle.rules.specs.Calls.{advance_answer, advance_call}
 use Rattle.rules.specs.Verdicts.{upward_true}
 use Rattle.rules.specs.Walking.{advance_is}
 use Rattle.held.specs.Holding.{holds}
-use Rattle.std.proofs.Common.{rules}
 use Rattle.advancement.proofs.check_advancement.Goals as goal
 use Rattle.advancement.proofs.check_advancement.Goals.{After-advancement_len, Else-not-ahead, Else-not-is_in_order, Else-proof-advancement_len, Then-proof-advancement_len}
 

@@ -11,7 +11,6 @@ use Rattle.held.specs.Holding.{holds}
 use Rattle.advancement.specs.declared.Advance.{Advance}
 use Rattle.advancement.specs.Advancing.{answer_of, step_of}
 use Rattle.advancement.proofs.Advancing.{Stands, begins, toward, hop_at, inside, long, ready, taken, goes_on, refuses, arrives}
-use Rattle.std.proofs.Common.{rules}
 use Rattle.advancement.proofs.follow.Goals as goal
 use Rattle.advancement.proofs.follow.Goals.{After-component_at-component, After-state-1, After-take_hop-r}
 

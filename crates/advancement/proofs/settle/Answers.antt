@@ -1,9 +1,7 @@
 -- `advancement::settle` meets its contract, by whether the digests are the same.
 use mathlib.Core.Path.{◌≡◌, sym, ◌∙◌}
 use mathlib.Core.Bool.{Bool, true, false}
-use borrow.Author.Tests.{not-true, not-false}
 use Rattle.lists.specs.Bytes.{same}
-use Rattle.std.proofs.Common.{rules}
 use Rattle.advancement.proofs.settle.Goals as goal
 use Rattle.advancement.proofs.settle.Goals.{After-same_digest}
 

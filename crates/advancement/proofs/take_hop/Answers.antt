@@ -5,7 +5,6 @@ use mathlib.Core.List.{List}
 use Prim.Native.Nat.{ℕ, ◌+◌, ◌^◌}
 use native.Mathlib.Omega.{arith}
 use native.Mathlib.Numerals.{add-one}
-use borrow.Author.Tests.{not-true, not-false}
 use Rattle.lists.specs.Bytes.{Bytes, same}
 use Rattle.rules.specs.Numbers.{v1}
 use Rattle.hash.specs.Hash.{hash_of}
@@ -17,7 +16,6 @@ use Rattle.held.specs.declared.Rows.TheVariants.{Agree}
 use Rattle.advancement.specs.declared.Hop.TheVariants.{Good, Row, Link}
 use Rattle.messages.specs.Parts.{size_short}
 use Rattle.advancement.specs.Advancing.{Step, hop_of, hop_by, hop_is}
-use Rattle.std.proofs.Common.{rules}
 use Rattle.advancement.proofs.take_hop.Goals as goal
 use Rattle.advancement.proofs.take_hop.Goals.{After-row_is}
 

@@ -2,7 +2,6 @@
 use mathlib.Core.Path.{sym, ap}
 use Rattle.advancement.specs.declared.Hop.{Hop}
 use Rattle.advancement.specs.Advancing.{verdict_by}
-use Rattle.std.proofs.Common.{rules}
 use Rattle.advancement.proofs.verdict_by.Goals as goal
 
 pub returns-in-Good : goal.returns-in-Good

@@ -6,7 +6,6 @@ use Rattle.rules.specs.Numbers.{v1}
 use Rattle.rules.specs.Store.{t_of}
 use Rattle.rules.specs.Places.{place_mono}
 use Rattle.basis.proofs.Filling.{shifts_le, row_free, row_used}
-use Rattle.std.proofs.Common.{rules}
 use Rattle.basis.proofs.basis_row.Goals as goal
 
 pub returns-then-at-level-eq0 : goal.returns-then-at-level-eq0

@@ -1,16 +1,14 @@
 -- `basis::basis_rows` meets its contract: the rows so far, and behind them those still to come, are the basis at each turn.
-use mathlib.Core.Path.{◌≡◌, refl, sym, ap, ◌∙◌}
-use Prim.Native.Nat.{◌-◌, ◌≤◌}
+use mathlib.Core.Path.{refl, sym, ap, ◌∙◌}
+use Prim.Native.Nat.{◌-◌}
 use native.Mathlib.Omega.{arith}
 use lib.ListN.{length, length-set}
 use Rattle.hash.specs.Hash.{hash_of}
 use Rattle.rules.specs.Numbers.{v1}
 use Rattle.rules.specs.Store.{t_of}
-use Rattle.rules.specs.Held.{basis}
 use Rattle.held.specs.Holding.{bytes_of, rows_of}
 use Rattle.held.proofs.Turns.{rows_set}
-use Rattle.basis.proofs.Filling.{filled, fill_turn, fill_end}
-use Rattle.std.proofs.Common.{rules}
+use Rattle.basis.proofs.Filling.{fill_turn, fill_end}
 use Rattle.basis.proofs.basis_rows.Goals as goal
 
 pub loop-l-init : goal.loop-l-init

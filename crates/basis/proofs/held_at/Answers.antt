@@ -14,7 +14,6 @@ use Rattle.rules.specs.Places.{place_mono}
 use Rattle.rules.specs.Answers.{held_damaged, held_above, held_done}
 use Rattle.held.specs.Holding.{holds}
 use Rattle.store.proofs.Laws.{InOrder, in_order, broken}
-use Rattle.std.proofs.Common.{rules}
 use Rattle.basis.proofs.held_at.Goals as goal
 use Rattle.basis.proofs.held_at.Goals.{In-Count}
 

@@ -15,7 +15,6 @@ use Rattle.store.proofs.Laws.{InOrder, in_order, broken}
 use Rattle.build.specs.Parts.{advancement_in}
 use Rattle.build.proofs.Asking.{Covers, covers, uncovered, size_told}
 use Rattle.build.proofs.Writing.{advancement_written}
-use Rattle.std.proofs.Common.{rules}
 use Rattle.build.proofs.advancement.Goals as goal
 use Rattle.build.proofs.advancement.Goals.{After-advancement_len-size, Else-not-covers, In-Count}
 

@@ -16,7 +16,6 @@ use Rattle.store.proofs.Laws.{InOrder, in_order, broken}
 use Rattle.build.specs.Parts.{membership_in}
 use Rattle.build.proofs.Asking.{Covers, covers, uncovered, size_told, start_unasked, element_asked}
 use Rattle.build.proofs.Writing.{membership_written}
-use Rattle.std.proofs.Common.{rules}
 use Rattle.build.proofs.membership.Goals as goal
 use Rattle.build.proofs.membership.Goals.{After-membership_len-size, Else-i-eq0, Else-not-covers, In-Count}
 

@@ -1,19 +1,14 @@
 -- `build::put_after` meets its contract: what is still to be written, over what stands there, comes to the same at each turn.
-use mathlib.Core.Path.{◌≡◌, refl, sym, ◌∙◌}
+use mathlib.Core.Path.{◌≡◌}
 use Prim.Native.Nat.{ℕ, ◌+◌, ◌-◌, ◌≤◌}
-use native.Mathlib.Nat.{le_trans}
-use native.Mathlib.Omega.{arith}
 use lib.ListN.{length}
 use lib.Seq.{paste}
 use Rattle.lists.specs.Bytes.{Bytes}
-use Rattle.hash.specs.Hash.{hash_of, hash_length}
+use Rattle.hash.specs.Hash.{hash_of}
 use Rattle.rules.specs.Numbers.{v1}
 use Rattle.rules.specs.Paths.{path_after}
 use Rattle.rules.specs.Messages.{total}
-use Rattle.rules.specs.Places.{place_mono}
 use Rattle.build.specs.Parts.{advancement_in}
-use Rattle.build.proofs.Writing.{Hopped, hopped, advancement_step, advancement_end}
-use Rattle.std.proofs.Common.{rules}
 use Rattle.build.proofs.put_after.Given as goal
 
 -- o with the components behind j written from index k on

@@ -3,7 +3,6 @@ use native.Mathlib.Omega.{arith}
 use Rattle.hash.specs.Hash.{hash_of, hash_length}
 use Rattle.rules.specs.Numbers.{v1}
 use Rattle.build.proofs.Writing.{component_written}
-use Rattle.std.proofs.Common.{rules}
 use Rattle.build.proofs.put_component.Goals as goal
 
 pub returns : goal.returns

@@ -17,7 +17,6 @@ use Rattle.copies.specs.Calls.{found, refused, compare_call}
 use Rattle.copies.specs.Answers.{compare_is, finding_is}
 use Rattle.path.specs.declared.Length.{Length}
 use Rattle.store.proofs.Laws.{InOrder, in_order, broken}
-use Rattle.std.proofs.Common.{rules}
 use Rattle.compare.proofs.compare.Goals as goal
 use Rattle.compare.proofs.compare.Goals.{After-first_difference-spot, In-Count, In-Count-second_counted}
 

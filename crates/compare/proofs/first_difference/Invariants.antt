@@ -1,13 +1,8 @@
 -- `compare::first_difference` meets its contract: the search of all elements is the search of those that are left, and so is that of the bytes of one.
-use mathlib.Core.Path.{◌≡◌, refl, sym, ap, ap₂, ◌∙◌}
-use Prim.Native.Nat.{ℕ, ◌+◌, ◌-◌, ◌≤◌}
-use native.Mathlib.Omega.{arith}
-use Rattle.lists.specs.Bytes.{Bytes, same}
+use mathlib.Core.Path.{◌≡◌}
+use Prim.Native.Nat.{◌+◌, ◌-◌, ◌≤◌}
 use Rattle.rules.specs.Numbers.{v1}
-use Rattle.rules.specs.Store.{fields_of}
 use Rattle.copies.specs.Comparing.{first_not, same_element, same_byte}
-use Rattle.copies.specs.First.{first_step, first_stop, first_end, byte_same, byte_other, string_other, string_same}
-use Rattle.lists.specs.Same.{same_eq}
 use Rattle.compare.proofs.first_difference.Given as goal
 
 abbrev pub invariant-loop-b : goal.invariant-loop-b

@@ -3,7 +3,6 @@ use mathlib.Core.Path.{refl}
 use mathlib.Core.List.{[], ◌∷◌}
 use Rattle.copies.specs.Line.{line_of}
 use Rattle.compare_line.proofs.Parts.{ended}
-use Rattle.std.proofs.Common.{rules}
 use Rattle.compare_line.proofs.line.Goals as goal
 
 pub returns : goal.returns

@@ -4,7 +4,6 @@ use mathlib.Core.List.{[], ◌∷◌, ◌++◌}
 use native.Mathlib.Omega.{arith}
 use Rattle.copies.specs.Line.{decimal, words}
 use Rattle.compare_line.proofs.Parts.{behind, joined}
-use Rattle.std.proofs.Common.{rules}
 use Rattle.compare_line.proofs.put_difference.Goals as goal
 
 pub returns : goal.returns

@@ -1,11 +1,10 @@
 -- `compare_line::put_outcome` meets its contract: each return fixes the tests of the definition up to it.
 use mathlib.Core.Path.{refl}
 use lib.ListN.{length}
-use borrow.Author.Tests.{not-true, not-false, lt-leb, le-leb}
+use borrow.Author.Tests.{lt-leb, le-leb}
 use Rattle.rules.specs.Numbers.{v1}
 use Rattle.copies.specs.Line.{file_most}
 use Rattle.compare_line.specs.Text.{text_is}
-use Rattle.std.proofs.Common.{rules}
 use Rattle.compare_line.proofs.put_outcome.Goals as goal
 
 pub returns-then-not-read : goal.returns-then-not-read

@@ -3,7 +3,6 @@ use mathlib.Core.Path.{refl}
 use native.Mathlib.Omega.{arith}
 use Rattle.copies.specs.Line.{decimal, words}
 use Rattle.compare_line.proofs.Parts.{behind}
-use Rattle.std.proofs.Common.{rules}
 use Rattle.compare_line.proofs.put_refusal.Goals as goal
 
 pub returns : goal.returns

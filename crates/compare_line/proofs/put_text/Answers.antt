@@ -2,7 +2,6 @@
 use mathlib.Core.Path.{refl, ◌∙◌}
 use lib.ListN.{length}
 use Rattle.compare_line.proofs.Parts.{begun}
-use Rattle.std.proofs.Common.{rules}
 use Rattle.compare_line.proofs.put_text.Goals as goal
 
 pub returns : goal.returns

@@ -1,6 +1,5 @@
 -- `compare_line::put_words` meets its contract: each answer has the words of what it says.
 use Rattle.copies.specs.Line.{words}
-use Rattle.std.proofs.Common.{rules}
 use Rattle.compare_line.proofs.put_words.Goals as goal
 
 pub returns-in-Equal : goal.returns-in-Equal

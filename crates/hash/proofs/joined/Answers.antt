@@ -1,6 +1,5 @@
 -- `hash::joined` meets its contract: SHA-256 of a message in two parts is that of the parts, one after the other.
 use Rattle.hash.proofs.Joining.{digest_is}
-use Rattle.std.proofs.Common.{rules}
 use Rattle.hash.proofs.joined.Goals as goal
 
 pub returns : goal.returns

@@ -1,12 +1,11 @@
 -- `held::carry` meets its contract: the carry from row c up, with what moves, comes to the same at each turn.
-use mathlib.Core.Path.{◌≡◌, refl, sym, ap, ◌∙◌}
+use mathlib.Core.Path.{refl, sym, ap, ◌∙◌}
 use Prim.Native.Nat.{◌-◌}
 use native.Mathlib.Omega.{arith}
 use lib.ListN.{length, length-set}
 use Rattle.lists.specs.Bytes.{zeros}
-use Rattle.rules.specs.Numbers.{v1}
 use Rattle.held.specs.Holding.{rows_of}
-use Rattle.held.proofs.Turns.{is_used, zero_digest, is_free, rows_long, rows_set, carried_from, carry_stop, carry_turn, carry_end}
+use Rattle.held.proofs.Turns.{is_used, zero_digest, is_free, rows_long, rows_set, carry_stop, carry_turn, carry_end}
 use Rattle.std.proofs.Common.{rules}
 use Rattle.held.proofs.carry.Goals as goal
 

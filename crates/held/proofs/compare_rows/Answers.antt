@@ -1,11 +1,9 @@
 -- `held::compare_rows` meets its contract: what the rows from c up say is what all of them say, as long as each was good and in use.
 use mathlib.Core.Path.{◌≡◌, refl, sym, ◌∙◌}
 use mathlib.Core.Bool.{Bool, true, false, cond}
-use Prim.Native.Nat.{suc, ◌+◌, ◌-◌, ◌*◌, ◌/◌, ◌^◌}
+use Prim.Native.Nat.{◌+◌, ◌-◌, ◌/◌, ◌^◌}
 use native.Mathlib.Omega.{arith}
-use borrow.Author.Tests.{not-true, not-false}
-use lib.ListN.{length, drop}
-use Rattle.rules.specs.Numbers.{v1}
+use lib.ListN.{drop}
 use Rattle.held.specs.declared.Rows.TheVariants.{Differ}
 use Rattle.held.specs.Holding.{rows_of}
 use Rattle.held.specs.Rows.{rows_say}

@@ -1,16 +1,10 @@
 -- `held::compare_rows` meets its contract: what the rows from c up say is what all of them say, as long as each was good and in use.
-use mathlib.Core.Path.{◌≡◌, refl, sym, ◌∙◌}
-use mathlib.Core.Bool.{Bool, true, false, cond}
-use Prim.Native.Nat.{suc, ◌+◌, ◌-◌, ◌*◌, ◌/◌, ◌^◌}
-use native.Mathlib.Omega.{arith}
-use borrow.Author.Tests.{not-true, not-false}
+use mathlib.Core.Path.{◌≡◌}
+use Prim.Native.Nat.{suc, ◌-◌, ◌*◌, ◌^◌}
 use lib.ListN.{length, drop}
 use Rattle.rules.specs.Numbers.{v1}
-use Rattle.held.specs.declared.Rows.TheVariants.{Differ}
 use Rattle.held.specs.Holding.{rows_of}
 use Rattle.held.specs.Rows.{rows_say}
-use Rattle.held.proofs.Turns.{is_used, is_free, rows_long, linked, reached, say_free, say_turn, say_end}
-use Rattle.std.proofs.Common.{rules}
 use Rattle.held.proofs.compare_rows.Given as goal
 
 abbrev pub invariant-loop-c : goal.invariant-loop-c

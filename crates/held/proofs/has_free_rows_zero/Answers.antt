@@ -1,13 +1,11 @@
 -- `held::has_free_rows_zero` meets its contract: what the rows from c up say is what all of them say, as long as none failed.
 use mathlib.Core.Path.{◌≡◌, refl, sym, ap, ◌∙◌}
 use mathlib.Core.Bool.{Bool, true, false, ◌&&◌, ◌||◌}
-use Prim.Native.Nat.{◌+◌, ◌-◌, ◌/◌, ◌≤◌}
+use Prim.Native.Nat.{◌+◌, ◌-◌, ◌/◌}
 use native.Mathlib.Omega.{arith}
-use borrow.Author.Tests.{not-true, not-false}
-use lib.ListN.{length, drop}
+use lib.ListN.{drop}
 use Rattle.lists.specs.Bytes.{Bytes, same, zeros}
 use Rattle.rules.specs.Held.{odd, free_zero}
-use Rattle.rules.specs.Numbers.{v1}
 use Rattle.held.specs.Holding.{rows_of}
 use Rattle.held.proofs.Turns.{rows_long, row_of, free_turn, free_end}
 use Rattle.std.proofs.Common.{rules}

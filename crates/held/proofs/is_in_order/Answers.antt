@@ -2,14 +2,13 @@
 use mathlib.Core.Path.{◌≡◌, refl, sym, ap, ◌∙◌}
 use mathlib.Core.Bool.{Bool, true, false, ◌&&◌, ◌||◌}
 use lib.Dec.{leb}
-use borrow.Author.Tests.{le-leb, lt-leb, not-true, not-false}
+use borrow.Author.Tests.{le-leb, lt-leb}
 use Rattle.lists.specs.Bytes.{Bytes, same}
 use Rattle.hash.specs.Hash.{hash_of}
 use Rattle.rules.specs.Numbers.{v1, limit}
 use Rattle.rules.specs.Messages.{start_msg}
 use Rattle.rules.specs.Held.{Held, free_zero, is_in_order}
 use Rattle.held.specs.Holding.{holds}
-use Rattle.std.proofs.Common.{rules}
 use Rattle.held.proofs.is_in_order.Goals as goal
 use Rattle.held.proofs.is_in_order.Goals.{Else-not-has_free_rows_zero}
 

@@ -1,6 +1,5 @@
 -- `held::may_stand` meets its contract: a row in use may hold anything, a free one is compared with zeros.
 use borrow.Author.Tests.{eq-eqb, ne_eqb}
-use Rattle.std.proofs.Common.{rules}
 use Rattle.held.proofs.may_stand.Goals as goal
 
 pub returns-then-q-eq1 : goal.returns-then-q-eq1

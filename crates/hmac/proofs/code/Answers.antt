@@ -8,7 +8,6 @@ use Rattle.lists.specs.Bytes.{Bytes}
 use Rattle.hash.specs.Hash.{hash_of, hash_length}
 use Rattle.hash.specs.Joined.{joined_of, joined_short}
 use Rattle.seals.specs.Hmac.{inner, outer, xored, key_block, hmac_of}
-use Rattle.std.proofs.Common.{rules}
 use Rattle.hmac.proofs.code.Goals as goal
 
 -- the two digests, on plain lists

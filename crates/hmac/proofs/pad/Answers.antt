@@ -1,11 +1,11 @@
 -- `hmac::pad` meets its contract: after i turns the first i bytes are XORed.
-use mathlib.Core.Path.{◌≡◌, ap, ◌∙◌}
-use Prim.Native.Nat.{◌-◌, ◌≤◌}
+use mathlib.Core.Path.{ap, ◌∙◌}
+use Prim.Native.Nat.{◌-◌}
 use native.Mathlib.Omega.{arith}
 use lib.Bits.{bit_xor}
-use lib.ListN.{length, get_or, set}
+use lib.ListN.{get_or, set}
 use Rattle.lists.specs.Bytes.{Bytes}
-use Rattle.seals.specs.Blocks.{halfway, halfway_none, halfway_next, halfway_all}
+use Rattle.seals.specs.Blocks.{halfway_none, halfway_next, halfway_all}
 use Rattle.std.proofs.Common.{rules}
 use Rattle.hmac.proofs.pad.Goals as goal
 

@@ -1,12 +1,8 @@
 -- `hmac::pad` meets its contract: after i turns the first i bytes are XORed.
-use mathlib.Core.Path.{◌≡◌, ap, ◌∙◌}
+use mathlib.Core.Path.{◌≡◌}
 use Prim.Native.Nat.{◌-◌, ◌≤◌}
-use native.Mathlib.Omega.{arith}
-use lib.Bits.{bit_xor}
-use lib.ListN.{length, get_or, set}
-use Rattle.lists.specs.Bytes.{Bytes}
-use Rattle.seals.specs.Blocks.{halfway, halfway_none, halfway_next, halfway_all}
-use Rattle.std.proofs.Common.{rules}
+use lib.ListN.{length}
+use Rattle.seals.specs.Blocks.{halfway}
 use Rattle.hmac.proofs.pad.Given as goal
 
 abbrev pub invariant-loop-i : goal.invariant-loop-i

@@ -4,7 +4,7 @@ use mathlib.Core.Bool.{true, false}
 use Prim.Native.Nat.{◌%◌}
 use lib.Dec.{leb, eqb}
 use lib.ListN.{length}
-use borrow.Author.Tests.{lt-ltb, le-ltb, lt-leb, le-leb, eq-eqb, ne_eqb, not-true, not-false}
+use borrow.Author.Tests.{lt-ltb, le-ltb, lt-leb, le-leb, eq-eqb, ne_eqb}
 use Rattle.lists.specs.Bytes.{Bytes, same}
 use Rattle.hash.specs.Hash.{hash_of}
 use Rattle.rules.specs.Numbers.{entry_limit}
@@ -13,7 +13,6 @@ use Rattle.dictionary.specs.Trie.{shown_empty}
 use Rattle.dictionary.specs.Calls.{key_long}
 use Rattle.dictionary.specs.Answers.{absence_is}
 use Rattle.lookup.specs.Told.{verdict_number}
-use Rattle.std.proofs.Common.{rules}
 use Rattle.lookup.proofs.check_absence.Goals as goal
 use Rattle.lookup.proofs.check_absence.Goals.{After-leads_to, Else-key-gt-KEY_LIMIT, Else-proof-gt-LONGEST, Else-proof-ne0}
 

@@ -2,7 +2,7 @@
 use mathlib.Core.Path.{◌≡◌, refl, sym, ap, ◌∙◌}
 use mathlib.Core.Bool.{false}
 use native.Mathlib.Omega.{arith}
-use borrow.Author.Tests.{lt-ltb, le-ltb, eq-eqb, ne_eqb, not-true, not-false}
+use borrow.Author.Tests.{lt-ltb, le-ltb, eq-eqb, ne_eqb}
 use Rattle.lists.specs.Bytes.{Bytes, same}
 use Rattle.hash.specs.Hash.{hash_of}
 use Rattle.rules.specs.Numbers.{entry_limit}
@@ -11,7 +11,6 @@ use Rattle.dictionary.specs.Trie.{climbed, shown_full}
 use Rattle.dictionary.specs.Calls.{key_long}
 use Rattle.dictionary.specs.Answers.{presence_is}
 use Rattle.lookup.specs.Told.{verdict_number}
-use Rattle.std.proofs.Common.{rules}
 use Rattle.lookup.proofs.check_presence.Goals as goal
 use Rattle.lookup.proofs.check_presence.Goals.{After-leads_to, Else-key-gt-KEY_LIMIT}
 

@@ -1,10 +1,9 @@
 -- `lookup::climb` meets its contract: at each turn the node at the depth reached.
 use mathlib.Core.Path.{◌≡◌, ap, ◌∙◌}
-use Prim.Native.Nat.{suc, ◌-◌, ◌≤◌}
+use Prim.Native.Nat.{suc, ◌-◌}
 use native.Mathlib.Omega.{arith}
 use Rattle.hash.specs.Hash.{hash_of}
-use Rattle.lookup.specs.Climbing.{depth_of, node_at, at_bottom, up_one}
-use Rattle.std.proofs.Common.{rules}
+use Rattle.lookup.specs.Climbing.{node_at, at_bottom, up_one}
 use Rattle.lookup.proofs.climb.Goals as goal
 
 pub loop-depth-init : goal.loop-depth-init

@@ -1,10 +1,7 @@
 -- `lookup::climb` meets its contract: at each turn the node at the depth reached.
-use mathlib.Core.Path.{◌≡◌, ap, ◌∙◌}
-use Prim.Native.Nat.{suc, ◌-◌, ◌≤◌}
-use native.Mathlib.Omega.{arith}
-use Rattle.hash.specs.Hash.{hash_of}
-use Rattle.lookup.specs.Climbing.{depth_of, node_at, at_bottom, up_one}
-use Rattle.std.proofs.Common.{rules}
+use mathlib.Core.Path.{◌≡◌}
+use Prim.Native.Nat.{◌-◌, ◌≤◌}
+use Rattle.lookup.specs.Climbing.{depth_of, node_at}
 use Rattle.lookup.proofs.climb.Given as goal
 
 abbrev pub invariant-loop-depth : goal.invariant-loop-depth

@@ -2,7 +2,6 @@
 use mathlib.Core.Path.{ap, ◌∙◌}
 use Prim.Native.Nat.{zero-le}
 use Rattle.lists.specs.Bytes.{Bytes, same}
-use Rattle.std.proofs.Common.{rules}
 use Rattle.lookup.proofs.leads_to.Goals as goal
 
 pub climb-top-requires : goal.climb-top-requires

@@ -5,7 +5,7 @@ use Prim.Native.Nat.{ℕ, ◌+◌, ◌≤◌}
 use native.Mathlib.Omega.{arith}
 use lib.Dec.{leb, eqb}
 use lib.ListN.{length, take, drop}
-use borrow.Author.Tests.{eq-eqb, ne_eqb, le-leb, lt-leb, not-true, not-false}
+use borrow.Author.Tests.{eq-eqb, ne_eqb, le-leb, lt-leb}
 use Rattle.lists.specs.Bytes.{Bytes, same}
 use Rattle.hash.specs.Hash.{hash_of}
 use Rattle.rules.specs.Numbers.{v1, entry_limit}
@@ -18,7 +18,6 @@ use Rattle.rules.specs.Bounds.{total_first}
 use Rattle.rules.specs.Walking.{row_at, member_is}
 use Rattle.messages.specs.Parts.{part_length, size_short}
 use Rattle.membership.specs.Verdicts.{verdict_of}
-use Rattle.std.proofs.Common.{rules}
 use Rattle.membership.proofs.check_membership.Goals as goal
 use Rattle.membership.proofs.check_membership.Goals.{After-component_at-first, After-membership_len, After-row_is, Else-entry-gt-ENTRY_LIMIT, Else-not-asked, Else-proof-membership_len, Start}
 

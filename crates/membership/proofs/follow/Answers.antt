@@ -2,10 +2,8 @@
 use mathlib.Core.Path.{refl, sym, ap, ◌∙◌}
 use Prim.Native.Nat.{◌+◌, ◌-◌, ◌<◌}
 use native.Mathlib.Omega.{arith}
-use borrow.Author.Tests.{not-true, not-false}
 use Rattle.membership.specs.Verdicts.{verdict_of}
 use Rattle.membership.proofs.Walking.{Stands, room, refuses, goes_on, settles}
-use Rattle.std.proofs.Common.{rules}
 use Rattle.membership.proofs.follow.Goals as goal
 use Rattle.membership.proofs.follow.Goals.{After-state-1}
 

@@ -1,5 +1,5 @@
 -- `membership::is_accepted` meets its contract: the first variant is the one that accepts.
-use Rattle.std.proofs.Common.{◌≡◌, ℕ, true, false, refl, sym, ap, ◌∙◌}
+use Rattle.std.proofs.Common.{◌≡◌, ℕ, true, false, refl, sym, ap}
 use Rattle.rules.specs.Checking.{is_accepted}
 use Rattle.membership.specs.Verdicts.{verdict_of}
 use Rattle.membership.specs.declared.Verdict.{Verdict}

@@ -5,7 +5,6 @@ use Prim.Native.Nat.{ℕ, suc, ◌+◌, ◌*◌, ◌≤◌, ◌<◌}
 use native.Mathlib.Numerals.{add-one}
 use native.Mathlib.Omega.{arith}
 use lib.ListN.{length}
-use borrow.Author.Tests.{not-true, not-false}
 use Rattle.lists.specs.Bytes.{Bytes, same}
 use Rattle.hash.specs.Hash.{hash_of}
 use Rattle.hash.specs.declared.Digest.{Digest}
@@ -18,7 +17,6 @@ use Rattle.membership.specs.declared.Hopped.{Hopped}
 use Rattle.membership.specs.declared.Hop.TheVariants.{Good, Link}
 use Rattle.messages.specs.Parts.{part_length, size_short}
 use Rattle.membership.specs.Hopping.{level_here, to_here, link_holds, hop_of, hop_good, hop_bad}
-use Rattle.std.proofs.Common.{rules}
 use Rattle.membership.proofs.take_hop.Goals as goal
 use Rattle.membership.proofs.take_hop.Goals.{After-component_at-component}
 

@@ -2,7 +2,6 @@
 use mathlib.Core.Path.{sym, ap}
 use Rattle.membership.specs.declared.Hop.{Hop}
 use Rattle.membership.specs.Hopping.{verdict_by}
-use Rattle.std.proofs.Common.{rules}
 use Rattle.membership.proofs.verdict_by.Goals as goal
 
 pub returns-in-Good : goal.returns-in-Good

@@ -5,7 +5,6 @@ use Prim.Native.Nat.{ℕ}
 use Rattle.lists.specs.Bytes.{Bytes}
 use Rattle.dictionary.specs.Handles.{turn}
 use Rattle.dictionary.specs.Trie.{inner_msg, crossing}
-use Rattle.std.proofs.Common.{rules}
 use Rattle.node.proofs.crossing.Goals as goal
 
 crossed : (e : ℕ) (k own s : Bytes) (b : Bool) → turn e k ≡ b → cond b (inner_msg s own) (inner_msg own s) ≡ crossing e k own s

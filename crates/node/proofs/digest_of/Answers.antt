@@ -2,7 +2,6 @@
 use mathlib.Core.List.{append-nil}
 use native.Mathlib.Omega.{arith}
 use Rattle.hash.specs.Joined.{hashed}
-use Rattle.std.proofs.Common.{rules}
 use Rattle.node.proofs.digest_of.Goals as goal
 
 pub returns : goal.returns

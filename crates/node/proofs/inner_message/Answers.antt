@@ -2,7 +2,6 @@
 use mathlib.Core.Path.{◌≡◌, refl}
 use native.Mathlib.Omega.{arith}
 use lib.ListN.{length, replicate}
-use Rattle.lists.specs.Laws.{mapped_long}
 use Rattle.node.proofs.Inner.{inner_put}
 use Rattle.std.proofs.Common.{rules}
 use Rattle.node.proofs.inner_message.Goals as goal

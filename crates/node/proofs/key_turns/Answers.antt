@@ -4,7 +4,6 @@ use native.Mathlib.Omega.{arith}
 use lib.ListN.{length}
 use lib.Seq.{take_all}
 use Rattle.dictionary.specs.Handles.{turn}
-use Rattle.lists.specs.Laws.{mapped_long}
 use Rattle.std.proofs.Common.{rules}
 use Rattle.node.proofs.key_turns.Goals as goal
 use Rattle.node.proofs.key_turns.Goals.{Start}

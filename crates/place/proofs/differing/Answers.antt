@@ -8,7 +8,6 @@ use Rattle.rules.specs.Numbers.{v1}
 use Rattle.rules.specs.Dispute.{Part as Place, differing}
 use Rattle.place.specs.Places.{part_is, cut, differing_inside}
 use Rattle.place.specs.declared.Part.{Part}
-use Rattle.std.proofs.Common.{rules}
 use Rattle.place.proofs.differing.Goals as goal
 use Rattle.place.proofs.differing.Goals.{After-differing_at-part}
 

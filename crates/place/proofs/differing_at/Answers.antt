@@ -5,7 +5,7 @@ use mathlib.Core.Option.{Option, none}
 use Prim.Native.Nat.{ℕ}
 use lib.Dec.{eqb}
 use lib.ListN.{length}
-use borrow.Author.Tests.{eq-eqb, ne_eqb, not-true, not-false}
+use borrow.Author.Tests.{eq-eqb, ne_eqb}
 use Rattle.rules.specs.Numbers.{v1}
 use Rattle.rules.specs.Paths.{path}
 use Rattle.rules.specs.Messages.{size, total}
@@ -15,7 +15,6 @@ use Rattle.rules.specs.Verdicts.{between_true}
 use Rattle.rules.specs.Spots.{differing_is}
 use Rattle.place.specs.Places.{spot_of}
 use Rattle.place.proofs.Spotting.{nowhere}
-use Rattle.std.proofs.Common.{rules}
 use Rattle.place.proofs.differing_at.Goals as goal
 use Rattle.place.proofs.differing_at.Goals.{After-find-spot, After-membership_len-len, Else-first-len, Else-not-asked, Else-second-len, Start}
 

@@ -15,7 +15,6 @@ use Rattle.rules.specs.Hops.{level_hop}
 use Rattle.rules.specs.Bounds.{total_first, total_after_step}
 use Rattle.rules.specs.Spots.{differs_at, nearest_start, nearest_step, nearest_end}
 use Rattle.place.specs.Places.{spot_of}
-use Rattle.std.proofs.Common.{rules}
 use Rattle.place.proofs.find.Invariants.{Seen}
 use Rattle.place.proofs.find.Goals as goal
 use Rattle.place.proofs.find.Goals.{After-component_len-at-in-loop-j}

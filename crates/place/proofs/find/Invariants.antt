@@ -1,21 +1,14 @@
 -- `place::find` meets its contract: what differs further on goes before what was found so far.
-use mathlib.Core.Path.{◌≡◌, sym, ap, ap₂, ◌∙◌}
+use mathlib.Core.Path.{◌≡◌}
 use mathlib.Core.Option.{Option}
-use Prim.Native.Nat.{ℕ, ◌+◌, ◌-◌, ◌^◌, ◌≤◌, ◌<◌}
-use native.Mathlib.Nat.{zero-add}
-use native.Mathlib.Omega.{arith}
-use lib.Pow.{pow_pos}
+use Prim.Native.Nat.{ℕ, ◌+◌, ◌-◌, ◌≤◌}
 use lib.ListN.{length}
 use Rattle.lists.specs.Bytes.{Bytes}
 use Rattle.rules.specs.Numbers.{v1}
-use Rattle.rules.specs.Paths.{level, path, path_after}
-use Rattle.rules.specs.Messages.{size, total}
+use Rattle.rules.specs.Paths.{path, path_after}
+use Rattle.rules.specs.Messages.{total}
 use Rattle.rules.specs.Dispute.{or_else, nearest}
-use Rattle.rules.specs.Hops.{level_hop}
-use Rattle.rules.specs.Bounds.{total_first, total_after_step}
-use Rattle.rules.specs.Spots.{differs_at, nearest_start, nearest_step, nearest_end}
 use Rattle.place.specs.Places.{spot_of}
-use Rattle.std.proofs.Common.{rules}
 use Rattle.place.proofs.find.Given as goal
 
 -- s was found up to j; the components behind that of j begin at `at`

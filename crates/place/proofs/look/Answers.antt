@@ -7,7 +7,6 @@ use Rattle.rules.specs.Numbers.{v1}
 use Rattle.rules.specs.Messages.{part}
 use Rattle.rules.specs.Dispute.{unlike}
 use Rattle.rules.specs.Spots.{differs_at}
-use Rattle.std.proofs.Common.{rules}
 use Rattle.place.proofs.look.Goals as goal
 
 compared : (p q : Bytes) (j at : ℕ) {x y : Bytes} {b t : Bool} → x ≡ part v1 p at j → y ≡ part v1 q at j → b ≡ same x y → b ≡ t → differs_at v1 p q j at ≡ unlike t (j, at)

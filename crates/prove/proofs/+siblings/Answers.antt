@@ -1,6 +1,6 @@
 -- `prove::siblings` meets its contract: one sibling more at each step.
 use Rattle.std.proofs.Common.{sym, ap, arith, length}
-use Rattle.trie.specs.Tidy.{filled, tidy_below}
+use Rattle.trie.specs.Tidy.{filled}
 use Rattle.prove.proofs.Ways.{way_none, way_bottom, way_step, count_step}
 use Rattle.prove.proofs.+siblings.Goals as goal
 

@@ -5,7 +5,7 @@ use Prim.Native.Nat.{ℕ, ◌*◌}
 use native.Mathlib.Omega.{arith}
 use lib.ListN.{length}
 use lib.Seq.{paste}
-use borrow.Author.Tests.{lt-ltb, le-ltb, not-true, not-false}
+use borrow.Author.Tests.{lt-ltb, le-ltb}
 use Rattle.lists.specs.Bytes.{Bytes}
 use Rattle.hash.specs.Hash.{hash_of}
 use Rattle.rules.specs.Numbers.{entry_limit}
@@ -15,7 +15,6 @@ use Rattle.dictionary.specs.Calls.{key_long, is_present, proof_of}
 use Rattle.dictionary.specs.Answers.{prove_is}
 use Rattle.trie.specs.Tidy.{Tidy, tidy_all}
 use Rattle.prove.proofs.Ways.{way_over, sized, over_start}
-use Rattle.std.proofs.Common.{rules}
 use Rattle.prove.proofs.build.Goals as goal
 use Rattle.prove.proofs.build.Goals.{After-agree, After-siblings-size, Else-key-gt-KEY_LIMIT, Else-not-listed}
 

@@ -8,7 +8,6 @@ use Rattle.hash.specs.Hash.{hash_of}
 use Rattle.dictionary.specs.Handles.{rows_of, side}
 use Rattle.dictionary.specs.Trie.{subtree}
 use Rattle.prove.proofs.Ways.{node_long}
-use Rattle.std.proofs.Common.{rules}
 use Rattle.prove.proofs.put_sibling.Goals as goal
 use Rattle.prove.proofs.put_sibling.Goals.{After-subtree-sibling}
 

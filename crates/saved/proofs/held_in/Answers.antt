@@ -7,7 +7,6 @@ use Rattle.lists.specs.Bytes.{Bytes, number}
 use Rattle.rules.specs.Numbers.{v1}
 use Rattle.held.specs.Holding.{rows_of}
 use Rattle.file_form.specs.Form.{head_size, file_size, count_in, rows_in, state_in}
-use Rattle.std.proofs.Common.{rules}
 use Rattle.saved.proofs.held_in.Goals as goal
 
 pub read_rows-rows-requires : goal.read_rows-rows-requires

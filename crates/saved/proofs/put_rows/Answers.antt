@@ -3,10 +3,9 @@ use mathlib.Core.Path.{sym}
 use Prim.Native.Nat.{◌-◌}
 use native.Mathlib.Omega.{arith}
 use lib.ListN.{get_or}
-use Rattle.rules.specs.Numbers.{v1}
 use Rattle.held.specs.Holding.{bytes_of, rows_of}
 use Rattle.held.proofs.Turns.{no_digest, row_of, rows_long}
-use Rattle.saved.proofs.Turns.{Put, put_start, put_fits, put_turn, put_long, put_end}
+use Rattle.saved.proofs.Turns.{put_start, put_fits, put_turn, put_long, put_end}
 use Rattle.std.proofs.Common.{rules}
 use Rattle.saved.proofs.put_rows.Goals as goal
 

@@ -1,13 +1,8 @@
 -- `saved::put_rows` meets its contract: after l turns the rows in use among the first l stand behind the head.
-use mathlib.Core.Path.{sym}
 use Prim.Native.Nat.{◌-◌}
-use native.Mathlib.Omega.{arith}
-use lib.ListN.{get_or}
 use Rattle.rules.specs.Numbers.{v1}
-use Rattle.held.specs.Holding.{bytes_of, rows_of}
-use Rattle.held.proofs.Turns.{no_digest, row_of, rows_long}
-use Rattle.saved.proofs.Turns.{Put, put_start, put_fits, put_turn, put_long, put_end}
-use Rattle.std.proofs.Common.{rules}
+use Rattle.held.specs.Holding.{rows_of}
+use Rattle.saved.proofs.Turns.{Put}
 use Rattle.saved.proofs.put_rows.Given as goal
 
 abbrev pub invariant-loop-l : goal.invariant-loop-l

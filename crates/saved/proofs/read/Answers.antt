@@ -2,9 +2,9 @@
 use mathlib.Core.Path.{◌≡◌, refl, sym, ap, ◌∙◌}
 use mathlib.Core.Bool.{Bool, true, false, cond}
 use native.Mathlib.Omega.{arith}
-use lib.Dec.{leb, ltb, eqb}
+use lib.Dec.{leb, ltb}
 use lib.ListN.{length}
-use borrow.Author.Tests.{lt-ltb, le-ltb, le-leb, lt-leb, eq-eqb, ne_eqb, not-true, not-false}
+use borrow.Author.Tests.{lt-ltb, le-ltb, le-leb, lt-leb, eq-eqb, ne_eqb}
 use Rattle.lists.specs.Bytes.{be, same}
 use Rattle.hash.specs.Hash.{hash_of}
 use Rattle.rules.specs.Numbers.{v1, limit}
@@ -14,7 +14,6 @@ use Rattle.rules.specs.Calls.{held_found}
 use Rattle.file_form.specs.Form.{hld, head_size, file_size, mark_in, version_in, count_in, state_in}
 use Rattle.file_form.specs.Calls.{unread, read_call}
 use Rattle.file_form.specs.Answers.{read_is}
-use Rattle.std.proofs.Common.{rules}
 use Rattle.saved.proofs.read.Goals as goal
 use Rattle.saved.proofs.read.Goals.{After-file_len, After-is_in_order, Else-count-gt-LIMIT, Else-file-file_len, Else-file-lt-HEAD, Else-not-is_marked, Else-not-is_of_version}
 

@@ -2,11 +2,9 @@
 use mathlib.Core.Path.{refl}
 use Prim.Native.Nat.{◌-◌}
 use native.Mathlib.Omega.{arith}
-use Rattle.rules.specs.Numbers.{v1}
 use Rattle.held.specs.Holding.{bytes_of, rows_of}
 use Rattle.held.proofs.Turns.{rows_set}
-use Rattle.saved.proofs.Turns.{Got, got_start, got_fits, got_turn, got_end}
-use Rattle.std.proofs.Common.{rules}
+use Rattle.saved.proofs.Turns.{got_start, got_fits, got_turn, got_end}
 use Rattle.saved.proofs.read_rows.Goals as goal
 
 pub loop-l-init : goal.loop-l-init

@@ -1,12 +1,8 @@
 -- `saved::read_rows` meets its contract: after l turns the first l rows are those that the file gives.
-use mathlib.Core.Path.{refl}
 use Prim.Native.Nat.{◌-◌}
-use native.Mathlib.Omega.{arith}
 use Rattle.rules.specs.Numbers.{v1}
-use Rattle.held.specs.Holding.{bytes_of, rows_of}
-use Rattle.held.proofs.Turns.{rows_set}
-use Rattle.saved.proofs.Turns.{Got, got_start, got_fits, got_turn, got_end}
-use Rattle.std.proofs.Common.{rules}
+use Rattle.held.specs.Holding.{rows_of}
+use Rattle.saved.proofs.Turns.{Got}
 use Rattle.saved.proofs.read_rows.Given as goal
 
 abbrev pub invariant-loop-l : goal.invariant-loop-l

@@ -2,7 +2,6 @@
 use mathlib.Core.Path.{ap}
 use Rattle.rules.specs.Calls.{held_found}
 use Rattle.saved.specs.Told.{reading_number}
-use Rattle.std.proofs.Common.{rules}
 use Rattle.saved.proofs.refused.Goals as goal
 
 pub returns : goal.returns

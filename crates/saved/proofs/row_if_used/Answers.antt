@@ -5,7 +5,6 @@ use Prim.Native.Nat.{◌%◌}
 use lib.ListN.{take, drop}
 use borrow.Author.Tests.{eq-eqb, ne_eqb}
 use Rattle.lists.specs.Bytes.{zeros}
-use Rattle.std.proofs.Common.{rules}
 use Rattle.saved.proofs.row_if_used.Goals as goal
 
 pub returns-then-q-eq1 : goal.returns-then-q-eq1

@@ -4,7 +4,7 @@ use mathlib.Core.Bool.{true}
 use Prim.Native.Nat.{ℕ}
 use native.Mathlib.Omega.{arith}
 use lib.ListN.{length}
-use borrow.Author.Tests.{lt-ltb, le-ltb, not-true, not-false}
+use borrow.Author.Tests.{lt-ltb, le-ltb}
 use Rattle.lists.specs.Bytes.{Bytes}
 use Rattle.hash.specs.Hash.{hash_of}
 use Rattle.rules.specs.Numbers.{v1}
@@ -15,7 +15,6 @@ use Rattle.file_form.specs.Form.{file_size}
 use Rattle.file_form.specs.Answers.{write_is}
 use Rattle.file_form.specs.Back.{order_few}
 use Rattle.saved.proofs.Turns.{file_written}
-use Rattle.std.proofs.Common.{rules}
 use Rattle.saved.proofs.write.Goals as goal
 use Rattle.saved.proofs.write.Goals.{Else-not-is_in_order}
 

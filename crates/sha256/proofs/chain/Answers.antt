@@ -1,8 +1,6 @@
 -- `sha256::chain` meets its contract: with i bytes behind it, the hash value is that after i / 64 blocks.
-use mathlib.Core.Path.{◌≡◌}
-use Prim.Native.Nat.{◌+◌, ◌-◌, ◌/◌, ◌%◌, ◌≤◌}
+use Prim.Native.Nat.{◌+◌, ◌-◌}
 use native.Mathlib.Omega.{arith}
-use lib.ListN.{length}
 use Rattle.fips.specs.Sha256.{chained}
 use Rattle.sha256.proofs.Feeding.{chained_further, chained_whole}
 use Rattle.std.proofs.Common.{rules}

@@ -1,6 +1,5 @@
 -- `sha256::ended` meets its contract: the whole blocks are chained, and what is left of the bytes is padded.
 use Rattle.sha256.proofs.Feeding.{ended_run}
-use Rattle.std.proofs.Common.{rules}
 use Rattle.sha256.proofs.ended.Goals as goal
 
 pub returns : goal.returns

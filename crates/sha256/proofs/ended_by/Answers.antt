@@ -1,7 +1,6 @@
 -- `sha256::ended_by` meets its contract: both strings stay within one block, or fill it and go on.
 use native.Mathlib.Omega.{arith}
 use Rattle.sha256.proofs.Feeding.{ended_within, ended_over}
-use Rattle.std.proofs.Common.{rules}
 use Rattle.sha256.proofs.ended_by.Goals as goal
 
 pub returns-then-bytes-room : goal.returns-then-bytes-room

@@ -2,7 +2,6 @@
 use mathlib.Core.Path.{refl, sym, ap, ◌∙◌}
 use Rattle.sha256.specs.Ending.{ended_all}
 use Rattle.sha256.specs.Outcomes.{answered, hashed_long, hashed_fits}
-use Rattle.std.proofs.Common.{rules}
 use Rattle.sha256.proofs.hash.Goals as goal
 
 pub returns-then-message-gt-LIMIT : goal.returns-then-message-gt-LIMIT

@@ -6,7 +6,6 @@ use lib.ListN.{length-append}
 use Rattle.sha256.specs.Ending.{ended_all}
 use Rattle.sha256.specs.Outcomes.{answered, hashed_long, hashed_fits}
 use Rattle.sha256.proofs.Feeding.{ended_rest}
-use Rattle.std.proofs.Common.{rules}
 use Rattle.sha256.proofs.joined.Goals as goal
 
 pub returns-then-first-gt-LIMIT : goal.returns-then-first-gt-LIMIT

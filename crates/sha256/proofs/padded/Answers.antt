@@ -1,7 +1,6 @@
 -- `sha256::padded` meets its contract: what it writes behind the rest is FIPS's padding.
 use native.Mathlib.Omega.{arith}
 use Rattle.sha256.proofs.Closing.{padded_short, padded_long}
-use Rattle.std.proofs.Common.{rules}
 use Rattle.sha256.proofs.padded.Goals as goal
 
 pub returns-then-fill-lt56 : goal.returns-then-fill-lt56

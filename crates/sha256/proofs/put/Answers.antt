@@ -1,10 +1,8 @@
 -- `sha256::put` meets its contract: what is still to be stored falls by a byte with each turn.
-use mathlib.Core.Path.{◌≡◌, sym, ◌∙◌}
-use Prim.Native.Nat.{◌+◌, ◌-◌, ◌≤◌}
+use mathlib.Core.Path.{sym, ◌∙◌}
+use Prim.Native.Nat.{◌-◌}
 use native.Mathlib.Nat.{add-zero}
 use native.Mathlib.Omega.{arith}
-use lib.ListN.{length, drop}
-use lib.Seq.{sets}
 use Rattle.lists.specs.Laws.{sets_further, sets_ended}
 use Rattle.std.proofs.Common.{rules}
 use Rattle.sha256.proofs.put.Goals as goal

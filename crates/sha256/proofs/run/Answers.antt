@@ -1,6 +1,5 @@
 -- `sha256::run` meets its contract: the whole blocks are chained, and what is left of the bytes is all that is held.
 use Rattle.sha256.proofs.Feeding.{ran}
-use Rattle.std.proofs.Common.{rules}
 use Rattle.sha256.proofs.run.Goals as goal
 
 pub returns : goal.returns

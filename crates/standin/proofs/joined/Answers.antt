@@ -9,7 +9,6 @@ use lib.ListN.{length}
 use Rattle.lists.specs.Bytes.{Bytes, zeros}
 use Rattle.standin.specs.Stirred.{stirred, stirred_append, hash_stirred}
 use Rattle.standin.specs.Joined.{joined_of, joined_short, joined_long}
-use Rattle.std.proofs.Common.{rules}
 use Rattle.standin.proofs.joined.Goals as goal
 
 both : (a b one two : Bytes) → length a + length b ≤ 65536 → one ≡ stirred 0 zeros a → two ≡ stirred (length a % 32) one b → two ≡ joined_of a b

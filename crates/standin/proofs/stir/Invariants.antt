@@ -1,13 +1,8 @@
 -- `standin::stir` meets its contract: what is left is stirred into what there is.
-use mathlib.Core.Path.{◌≡◌, refl, sym, ◌∙◌}
-use Prim.Native.Nat.{ℕ, ◌+◌, ◌-◌, ◌%◌, ◌≤◌, ◌<◌}
-use native.Mathlib.Omega.{arith}
-use native.Mathlib.Numerals.{add-one}
-use lib.ListN.{length, get_or, drop, drop_of_length-le, length-set}
-use lib.Seq.{drop-cons}
-use Rattle.lists.specs.Bytes.{Bytes}
-use Rattle.standin.specs.Stirred.{xor_at, stirred}
-use Rattle.std.proofs.Common.{rules}
+use mathlib.Core.Path.{◌≡◌}
+use Prim.Native.Nat.{◌-◌, ◌≤◌, ◌<◌}
+use lib.ListN.{length, drop}
+use Rattle.standin.specs.Stirred.{stirred}
 use Rattle.standin.proofs.stir.Given as goal
 
 abbrev pub invariant-loop-i : goal.invariant-loop-i

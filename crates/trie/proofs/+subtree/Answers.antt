@@ -1,7 +1,7 @@
 -- `trie::subtree` meets its contract: the node over its two sides.
-use Rattle.std.proofs.Common.{refl, ap, ◌∙◌, arith, length-take}
+use Rattle.std.proofs.Common.{refl, ap, ◌∙◌}
 use Rattle.hash.specs.Hash.{hash_of}
-use Rattle.trie.specs.Tidy.{filled, tidy_below}
+use Rattle.trie.specs.Tidy.{filled}
 use Rattle.trie.proofs.Nodes.{node_empty, node_leaf, node_inner}
 use Rattle.trie.proofs.+subtree.Goals as goal
 

@@ -3,7 +3,7 @@ use mathlib.Core.Path.{sym, ◌∙◌}
 use Prim.Native.Nat.{◌+◌, ◌-◌, ◌≤◌}
 use native.Mathlib.Omega.{arith}
 use lib.ListN.{length}
-use Rattle.trie.proofs.Sorting.{Seeks, seeks, room, stops, goes_on, ends}
+use Rattle.trie.proofs.Sorting.{seeks, room, stops, goes_on, ends}
 use Rattle.trie.proofs.ones_from.Goals as goal
 use Rattle.trie.proofs.ones_from.Goals.{Else-turns}
 

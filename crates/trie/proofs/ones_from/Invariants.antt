@@ -1,9 +1,7 @@
 -- `trie::ones_from` meets its contract: what lies before the place reached has bit 0.
-use mathlib.Core.Path.{sym, ◌∙◌}
-use Prim.Native.Nat.{◌+◌, ◌-◌, ◌≤◌}
-use native.Mathlib.Omega.{arith}
+use Prim.Native.Nat.{◌-◌}
 use lib.ListN.{length}
-use Rattle.trie.proofs.Sorting.{Seeks, seeks, room, stops, goes_on, ends}
+use Rattle.trie.proofs.Sorting.{Seeks}
 use Rattle.trie.proofs.ones_from.Given as goal
 
 abbrev pub invariant-loop-at : goal.invariant-loop-at

@@ -2,7 +2,6 @@
 use mathlib.Core.Path.{◌≡◌, sym, ◌∙◌}
 use mathlib.Core.Bool.{true, false}
 use native.Mathlib.Omega.{arith}
-use borrow.Author.Tests.{not-true, not-false}
 use Rattle.lists.specs.Bytes.{Bytes, zeros}
 use Rattle.hash.specs.Hash.{hash_of}
 use Rattle.rules.specs.Refusals.{done}
@@ -12,7 +11,6 @@ use Rattle.dictionary.specs.Handles.{rows_of, listed}
 use Rattle.dictionary.specs.Trie.{root_of}
 use Rattle.dictionary.specs.Calls.{root_call}
 use Rattle.trie.specs.Tidy.{tidy_all}
-use Rattle.std.proofs.Common.{rules}
 use Rattle.trie.proofs.root.Goals as goal
 
 root_refused : (s : Bytes) → listed s ≡ false → found list_refused zeros ≡ root_call hash_of s

@@ -8,7 +8,6 @@ use lib.Seq.{take_all}
 use Rattle.lists.specs.Bytes.{Bytes}
 use Rattle.trie.specs.Tidy.{Sided}
 use Rattle.trie.proofs.Sorting.{cut_within, ones_side, zeros_side}
-use Rattle.std.proofs.Common.{rules}
 use Rattle.trie.proofs.side_of.Goals as goal
 use Rattle.trie.proofs.side_of.Goals.{After-ones_from-cut}
 

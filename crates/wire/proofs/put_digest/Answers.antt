@@ -3,7 +3,6 @@ use mathlib.Core.Path.{◌≡◌}
 use Prim.Native.Nat.{◌+◌, ◌≤◌}
 use native.Mathlib.Omega.{arith}
 use lib.ListN.{length}
-use Rattle.wire.specs.Wire.{held_bytes}
 use Rattle.std.proofs.Common.{rules}
 use Rattle.wire.proofs.put_digest.Goals as goal
 

@@ -1,17 +1,11 @@
 -- `wire::put_rows` meets its contract: after l turns the first l rows are written.
-use mathlib.Core.Path.{◌≡◌, refl, sym, ap, ap₂, ◌∙◌}
-use mathlib.Core.List.{List, []}
-use Prim.Native.Nat.{ℕ, ◌+◌, ◌*◌, ◌-◌, ◌≤◌, ◌<◌}
-use native.Mathlib.Omega.{arith}
-use lib.ListN.{length, get_or, take, length-map}
-use lib.Seq.{paste, paste-zero, length-paste, take_all}
-use Rattle.lists.specs.Bytes.{Bytes}
+use mathlib.Core.Path.{◌≡◌}
+use Prim.Native.Nat.{◌*◌, ◌-◌, ◌≤◌}
+use lib.ListN.{length, take}
+use lib.Seq.{paste}
 use Rattle.rules.specs.Numbers.{v1}
-use Rattle.held.specs.Holding.{bytes_of, rows_of}
-use Rattle.held.proofs.Turns.{no_digest}
+use Rattle.held.specs.Holding.{rows_of}
 use Rattle.wire.specs.Wire.{rows_place, flat}
-use Rattle.wire.proofs.Wiring.{long_turn, write_turn}
-use Rattle.std.proofs.Common.{rules}
 use Rattle.wire.proofs.put_rows.Given as goal
 
 abbrev pub invariant-loop-l : goal.invariant-loop-l

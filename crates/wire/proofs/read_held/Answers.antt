@@ -6,7 +6,6 @@ use lib.ListN.{take, drop}
 use Rattle.lists.specs.Bytes.{Bytes, number}
 use Rattle.held.specs.Holding.{rows_of}
 use Rattle.wire.specs.Wire.{held_in}
-use Rattle.std.proofs.Common.{rules}
 use Rattle.wire.proofs.read_held.Goals as goal
 
 pub returns : goal.returns

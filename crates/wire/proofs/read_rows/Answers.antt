@@ -1,8 +1,8 @@
 -- `wire::read_rows` meets its contract: after l turns the first l rows are those that stand in the bytes.
 use mathlib.Core.Path.{◌≡◌, refl, sym, ap, ◌∙◌}
-use Prim.Native.Nat.{ℕ, ◌-◌, ◌≤◌}
+use Prim.Native.Nat.{ℕ, ◌-◌}
 use native.Mathlib.Omega.{arith}
-use lib.ListN.{length, take, drop, length-set}
+use lib.ListN.{length, drop, length-set}
 use lib.Seq.{take_all}
 use Rattle.hash.specs.declared.Digest.{Digest}
 use Rattle.rules.specs.Numbers.{v1}
@@ -10,7 +10,6 @@ use Rattle.held.specs.Holding.{rows_of}
 use Rattle.held.proofs.Turns.{rows_set}
 use Rattle.wire.specs.Wire.{rows_place, rows_in}
 use Rattle.wire.proofs.Wiring.{read_turn}
-use Rattle.std.proofs.Common.{rules}
 use Rattle.wire.proofs.read_rows.Goals as goal
 
 pub loop-l-init : goal.loop-l-init

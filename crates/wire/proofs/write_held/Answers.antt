@@ -5,7 +5,6 @@ use lib.ListN.{length}
 use Rattle.held.specs.Holding.{holds}
 use Rattle.wire.specs.Wire.{held_bytes}
 use Rattle.wire.proofs.Wiring.{written}
-use Rattle.std.proofs.Common.{rules}
 use Rattle.wire.proofs.write_held.Goals as goal
 
 pub returns : goal.returns

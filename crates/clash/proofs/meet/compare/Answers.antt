@@ -4,7 +4,6 @@ use mathlib.Core.Bool.{Bool, cond}
 use native.Mathlib.Omega.{arith}
 use Rattle.dictionary.specs.Meeting.{two}
 use Rattle.clash.specs.Found.{meet_of}
-use Rattle.std.proofs.Common.{rules}
 use Rattle.clash.proofs.meet.compare.Goals as goal
 
 pub returns-then-same : goal.returns-then-same

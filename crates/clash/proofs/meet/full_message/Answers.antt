@@ -4,7 +4,6 @@ use native.Mathlib.Omega.{arith}
 use lib.Seq.{take_all}
 use Rattle.dictionary.specs.Meeting.{lone}
 use Rattle.clash.proofs.Meets.{full_sized, at_leaf, at_inner}
-use Rattle.std.proofs.Common.{rules}
 use Rattle.clash.proofs.meet.full_message.Goals as goal
 
 pub returns-then-depth-eq256 : goal.returns-then-depth-eq256

@@ -3,7 +3,6 @@ use mathlib.Core.Path.{◌≡◌, refl, ap}
 use native.Mathlib.Omega.{arith}
 use lib.ListN.{length, replicate}
 use Rattle.dictionary.specs.Meeting.{lone}
-use Rattle.lists.specs.Laws.{mapped_long}
 use Rattle.clash.proofs.Meets.{leaf_put}
 use Rattle.std.proofs.Common.{rules}
 use Rattle.clash.proofs.meet.leaf_message.Goals as goal

@@ -9,8 +9,7 @@ use Rattle.dictionary.specs.Handles.{rows_of}
 use Rattle.dictionary.specs.Trie.{leaf_msg}
 use Rattle.dictionary.specs.Meeting.{meeting}
 use Rattle.lookup.specs.Climbing.{depth_of, node_at, at_bottom, up_one}
-use Rattle.clash.proofs.Meets.{full_sized, Stands, begins, meet_step}
-use Rattle.std.proofs.Common.{rules}
+use Rattle.clash.proofs.Meets.{full_sized, begins, meet_step}
 use Rattle.clash.proofs.meet.walk_up.Goals as goal
 use Rattle.clash.proofs.meet.walk_up.Goals.{In-loop-depth}
 

@@ -4,7 +4,7 @@ use mathlib.Core.Bool.{true, false}
 use Prim.Native.Nat.{ℕ, ◌≤◌, ◌<◌}
 use lib.Dec.{eqb}
 use lib.ListN.{length}
-use borrow.Author.Tests.{le-leb, lt-leb, not-true, not-false}
+use borrow.Author.Tests.{le-leb, lt-leb}
 use Rattle.lists.specs.Bytes.{Bytes}
 use Rattle.hash.specs.Hash.{hash_of}
 use Rattle.rules.specs.Refusals.{done}
@@ -13,7 +13,6 @@ use Rattle.dictionary.specs.Meeting.{Meets, meeting}
 use Rattle.dictionary.specs.Calls.{roomy, showing, check_presence, check_absence}
 use Rattle.dictionary.specs.Answers.{clash_is}
 use Rattle.dictionary.specs.Accepted.{Full, full, Empty, empty}
-use Rattle.std.proofs.Common.{rules}
 use Rattle.clash.proofs.show.clash.Goals as goal
 use Rattle.clash.proofs.show.clash.Goals.{After-is_accepted, After-is_accepted-2, Else-not-is_accepted, Else-not-is_accepted-2, Else-out2-lt-ROOM}
 

@@ -2,7 +2,6 @@
 use mathlib.Core.Path.{◌≡◌}
 use native.Mathlib.Omega.{arith}
 use lib.ListN.{length}
-use Rattle.lists.specs.Laws.{mapped_long}
 use Rattle.clash.proofs.Meets.{two_shown, lone_shown}
 use Rattle.std.proofs.Common.{rules}
 use Rattle.clash.proofs.show.show.Goals as goal

@@ -1,9 +1,7 @@
 -- `dispute::settle::dispute` meets its contract: each return is a case of the rules' outcome.
 use mathlib.Core.Path.{◌≡◌}
 use mathlib.Core.Bool.{Bool, true, false}
-use borrow.Author.Tests.{not-true, not-false}
 use Rattle.dispute.proofs.Judging.{First, Second, heard, first_short, second_short, first_refused, second_refused, settled_as, ready}
-use Rattle.std.proofs.Common.{rules}
 use Rattle.dispute.proofs.settle.dispute.Goals as goal
 use Rattle.dispute.proofs.settle.dispute.Goals.{After-is_accepted, After-is_accepted-2}
 

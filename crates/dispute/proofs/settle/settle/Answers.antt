@@ -12,7 +12,6 @@ use Rattle.rules.specs.Calls.{Disputed, showing}
 use Rattle.rules.specs.Spots.{dispute_is}
 use Rattle.place.specs.Places.{spot_of}
 use Rattle.place.proofs.Spotting.{nowhere, inside}
-use Rattle.std.proofs.Common.{rules}
 use Rattle.dispute.proofs.settle.settle.Goals as goal
 use Rattle.dispute.proofs.settle.settle.Goals.{In-At}
 

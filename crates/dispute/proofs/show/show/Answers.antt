@@ -7,7 +7,6 @@ use lib.ListN.{length, take, drop, length-append}
 use lib.Seq.{paste, take-length, take-append_seam, drop-append-add, drop-drop}
 use Rattle.lists.specs.Bytes.{Bytes}
 use Rattle.rules.specs.Calls.{over}
-use Rattle.std.proofs.Common.{rules}
 use Rattle.dispute.proofs.show.show.Goals as goal
 
 joined : (s head body x y : Bytes) → x ≡ paste s 0 head (length head) → y ≡ paste x (length head) body (length body) → y ≡ over (head ++ body) s

@@ -8,7 +8,6 @@ use Rattle.lists.specs.Bytes.{Bytes}
 use Rattle.rules.specs.Calls.{over, showing}
 use Rattle.dispute.specs.Answers.{finding_of, outcome}
 use Rattle.dispute.specs.declared.settle.Answer.TheVariants.{Shown}
-use Rattle.std.proofs.Common.{rules}
 use Rattle.dispute.proofs.show.show_both.Goals as goal
 
 both : (head first second b1 b2 x y : Bytes) → x ≡ over (head ++ first) b1 → y ≡ over (head ++ second) b2

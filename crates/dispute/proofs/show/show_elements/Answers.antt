@@ -11,7 +11,6 @@ use Rattle.rules.specs.Messages.{element_head, element_msg, size, part}
 use Rattle.rules.specs.Dispute.{messages, message_room}
 use Rattle.rules.specs.Calls.{Disputed, showing}
 use Rattle.messages.specs.Parts.{size_short}
-use Rattle.std.proofs.Common.{rules}
 use Rattle.dispute.proofs.show.show_elements.Goals as goal
 
 fits : (p : Bytes) (o j : ℕ) (head x b : Bytes) → head ≡ element_head j → x ≡ part v1 p o j → message_room ≤ length b → length head + length x ≤ length b

@@ -7,7 +7,6 @@ use Rattle.rules.specs.Messages.{entry_msg}
 use Rattle.rules.specs.Dispute.{unlike}
 use Rattle.rules.specs.Calls.{Disputed, showing}
 use Rattle.dispute.specs.Answers.{finding_of}
-use Rattle.std.proofs.Common.{rules}
 use Rattle.dispute.proofs.show.show_entries.Goals as goal
 
 module _ (e1 e2 b1 b2 : Bytes) (o : Disputed) where

@@ -10,7 +10,6 @@ use Rattle.rules.specs.Refusals.{done, too_long}
 use Rattle.rules.specs.Calls.{found}
 use Rattle.dictionary.specs.Handles.{handle}
 use Rattle.dictionary.specs.Calls.{handle_call}
-use Rattle.std.proofs.Common.{rules}
 use Rattle.handles.proofs.key.handle_of.Goals as goal
 
 handle_long : (key : Bytes) → entry_limit < length key → found too_long zeros ≡ handle_call hash_of key

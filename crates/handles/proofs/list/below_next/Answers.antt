@@ -1,6 +1,5 @@
 -- `handles::list::below_next` meets its contract: the first words that differ decide.
 use Rattle.handles.proofs.Listing.{first, second, third, fourth}
-use Rattle.std.proofs.Common.{rules}
 use Rattle.handles.proofs.list.below_next.Goals as goal
 
 pub returns-then-a0-b0 : goal.returns-then-a0-b0

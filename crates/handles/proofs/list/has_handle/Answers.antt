@@ -5,8 +5,7 @@ use native.Mathlib.Omega.{arith}
 use lib.ListN.{length, take, drop}
 use Rattle.lists.specs.Bytes.{Bytes, same}
 use Rattle.lists.specs.Pasting.{part_of}
-use Rattle.handles.proofs.Listing.{Looks, looks, row_room, found_here, looks_on, looks_end}
-use Rattle.std.proofs.Common.{rules}
+use Rattle.handles.proofs.Listing.{looks, row_room, found_here, looks_on, looks_end}
 use Rattle.handles.proofs.list.has_handle.Goals as goal
 use Rattle.handles.proofs.list.has_handle.Goals.{After-same, In-loop-at}
 

@@ -2,9 +2,7 @@
 use mathlib.Core.Path.{sym, ◌∙◌}
 use Prim.Native.Nat.{◌-◌}
 use native.Mathlib.Omega.{arith}
-use lib.ListN.{length}
-use borrow.Author.Tests.{not-true, not-false}
-use Rattle.handles.proofs.Listing.{Climbs, climbs_none, climbs, next_room, climbs_on, falls_here, climbs_end}
+use Rattle.handles.proofs.Listing.{climbs_none, climbs, next_room, climbs_on, falls_here, climbs_end}
 use Rattle.handles.proofs.list.rising.Goals as goal
 
 pub returns-then-s-eq0 : goal.returns-then-s-eq0

@@ -1,7 +1,6 @@
 -- `lotlog::building::lot_build_advancement` meets its contract: the call does the work, and its answer is told.
 use Rattle.lotlog.specs.Telling.{tells_written}
 use Rattle.lotlog.specs.Outcomes.{lot_build_advancement}
-use Rattle.std.proofs.Common.{rules}
 use Rattle.lotlog.proofs.building.lot_build_advancement.Goals as goal
 
 pub returns : goal.returns

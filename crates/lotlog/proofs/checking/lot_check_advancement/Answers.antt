@@ -4,7 +4,6 @@ use Rattle.rules.specs.Numbers.{v1}
 use Rattle.rules.specs.Calls.{advance_call}
 use Rattle.lotlog.specs.Telling.{tells_advanced}
 use Rattle.lotlog.specs.Outcomes.{lot_check_advancement}
-use Rattle.std.proofs.Common.{rules}
 use Rattle.lotlog.proofs.checking.lot_check_advancement.Goals as goal
 
 pub returns : goal.returns

@@ -3,7 +3,6 @@ use mathlib.Core.Path.{ap}
 use Rattle.rules.specs.Calls.{member_answer}
 use Rattle.lotlog.specs.Telling.{tells_answer}
 use Rattle.lotlog.specs.Outcomes.{lot_check_membership}
-use Rattle.std.proofs.Common.{rules}
 use Rattle.lotlog.proofs.checking.lot_check_membership.Goals as goal
 
 pub returns : goal.returns

@@ -1,6 +1,5 @@
 -- `lotlog::comparing::lot_compare` meets its contract: it tells what the call answers.
 use Rattle.lotlog.specs.Comparing.{lot_compare, tells_compared}
-use Rattle.std.proofs.Common.{rules}
 use Rattle.lotlog.proofs.comparing.lot_compare.Goals as goal
 
 pub returns : goal.returns

@@ -3,7 +3,6 @@ use mathlib.Core.Path.{sym, ap}
 use Rattle.compare.specs.declared.Compared.{Compared}
 use Rattle.compare.specs.Told.{compared_told}
 use Rattle.lotlog.specs.Comparing.{compared}
-use Rattle.std.proofs.Common.{rules}
 use Rattle.lotlog.proofs.comparing.tell_compared.Goals as goal
 
 pub returns-in-Equal : goal.returns-in-Equal

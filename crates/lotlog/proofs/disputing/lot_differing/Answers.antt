@@ -4,7 +4,6 @@ use mathlib.Core.List.{[], ◌∷◌}
 use Rattle.rules.specs.Dispute.{Part}
 use Rattle.lotlog.specs.Exports.{told}
 use Rattle.lotlog.specs.Outcomes.{lot_differing}
-use Rattle.std.proofs.Common.{rules}
 use Rattle.lotlog.proofs.disputing.lot_differing.Goals as goal
 
 pub returns : goal.returns

@@ -3,7 +3,6 @@ use mathlib.Core.Path.{sym, ap}
 use Rattle.dispute.specs.declared.settle.Answer.{Answer}
 use Rattle.dispute.specs.Answers.{finding_of}
 use Rattle.lotlog.specs.Exports.{finding}
-use Rattle.std.proofs.Common.{rules}
 use Rattle.lotlog.proofs.disputing.tell_finding.Goals as goal
 
 pub returns-in-Same : goal.returns-in-Same

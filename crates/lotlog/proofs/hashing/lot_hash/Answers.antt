@@ -3,7 +3,6 @@ use mathlib.Core.Path.{ap, ◌∙◌}
 use Rattle.sha256.specs.declared.Hashed.{Hashed}
 use Rattle.lotlog.specs.Exports.{leaves}
 use Rattle.lotlog.specs.Outcomes.{lot_hash}
-use Rattle.std.proofs.Common.{rules}
 use Rattle.lotlog.proofs.hashing.lot_hash.Goals as goal
 
 pub returns : goal.returns

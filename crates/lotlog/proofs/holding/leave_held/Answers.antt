@@ -4,7 +4,6 @@ use native.Mathlib.Omega.{arith}
 use Rattle.held.specs.Holding.{holds}
 use Rattle.wire.specs.Wire.{wire_of}
 use Rattle.lotlog.specs.Exports.{left, kept, given}
-use Rattle.std.proofs.Common.{rules}
 use Rattle.lotlog.proofs.holding.leave_held.Goals as goal
 
 pub returns-then-number-ne0 : goal.returns-then-number-ne0

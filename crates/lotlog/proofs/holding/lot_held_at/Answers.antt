@@ -1,7 +1,6 @@
 -- `lotlog::holding::lot_held_at` meets its contract: it leaves the bytes of the state that the call finds.
 use Rattle.lotlog.specs.Telling.{leaves_held}
 use Rattle.lotlog.specs.Outcomes.{lot_held_at}
-use Rattle.std.proofs.Common.{rules}
 use Rattle.lotlog.proofs.holding.lot_held_at.Goals as goal
 
 pub returns : goal.returns

@@ -1,7 +1,6 @@
 -- `lotlog::holding::lot_held_read` meets its contract: it leaves the bytes of the state that the file gives.
 use Rattle.lotlog.specs.Telling.{leaves_held}
 use Rattle.lotlog.specs.Outcomes.{lot_held_read}
-use Rattle.std.proofs.Common.{rules}
 use Rattle.lotlog.proofs.holding.lot_held_read.Goals as goal
 
 pub returns : goal.returns

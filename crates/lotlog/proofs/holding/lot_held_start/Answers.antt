@@ -3,7 +3,6 @@ use mathlib.Core.Path.{ap, ◌∙◌}
 use Rattle.wire.specs.Wire.{wire_of}
 use Rattle.lotlog.specs.Exports.{left}
 use Rattle.lotlog.specs.Outcomes.{lot_held_start}
-use Rattle.std.proofs.Common.{rules}
 use Rattle.lotlog.proofs.holding.lot_held_start.Goals as goal
 
 pub returns : goal.returns

@@ -6,7 +6,6 @@ use Rattle.rules.specs.Held.{Held}
 use Rattle.file_form.specs.Calls.{write_call}
 use Rattle.lotlog.specs.Telling.{tells_written}
 use Rattle.lotlog.specs.Outcomes.{lot_held_write}
-use Rattle.std.proofs.Common.{rules}
 use Rattle.lotlog.proofs.holding.lot_held_write.Goals as goal
 
 pub returns : goal.returns

@@ -1,7 +1,6 @@
 -- `lotlog::recalls::lot_check_presence` meets its contract: the number of the verdict.
 use mathlib.Core.Path.{◌∙◌}
 use Rattle.lotlog.specs.Recalls.{lot_check_presence}
-use Rattle.std.proofs.Common.{rules}
 use Rattle.lotlog.proofs.recalls.lot_check_presence.Goals as goal
 
 pub returns : goal.returns

@@ -1,6 +1,5 @@
 -- `lotlog::recalls::lot_trie_clash` meets its contract: the call does the work, and its answer is told.
 use Rattle.lotlog.specs.Recalls.{lot_trie_clash, tells_clash}
-use Rattle.std.proofs.Common.{rules}
 use Rattle.lotlog.proofs.recalls.lot_trie_clash.Goals as goal
 
 pub returns : goal.returns

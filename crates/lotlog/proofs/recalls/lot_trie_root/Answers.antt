@@ -4,7 +4,6 @@ use Prim.Native.Nat.{ℕ}
 use Rattle.rules.specs.Calls.{Found}
 use Rattle.lotlog.specs.Exports.{leaves}
 use Rattle.lotlog.specs.Recalls.{lot_trie_root}
-use Rattle.std.proofs.Common.{rules}
 use Rattle.lotlog.proofs.recalls.lot_trie_root.Goals as goal
 
 pub returns : goal.returns

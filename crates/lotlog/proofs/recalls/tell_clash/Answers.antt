@@ -3,7 +3,6 @@ use mathlib.Core.Path.{sym, ap}
 use Rattle.clash.specs.declared.show.Clashed.{Clashed}
 use Rattle.clash.specs.Told.{clash_told}
 use Rattle.lotlog.specs.Recalls.{clashed}
-use Rattle.std.proofs.Common.{rules}
 use Rattle.lotlog.proofs.recalls.tell_clash.Goals as goal
 
 pub returns-in-Two : goal.returns-in-Two

@@ -4,7 +4,6 @@ use Prim.Native.Nat.{ℕ}
 use Rattle.rules.specs.Calls.{Found}
 use Rattle.lotlog.specs.Exports.{leaves}
 use Rattle.lotlog.specs.Sealing.{lot_mac}
-use Rattle.std.proofs.Common.{rules}
 use Rattle.lotlog.proofs.sealing.lot_mac.Goals as goal
 
 pub returns : goal.returns

@@ -1,6 +1,5 @@
 -- `lotlog::sealing::lot_seal_add` meets its contract: the call does the work, its answer is told, and the chain's value is left.
 use Rattle.lotlog.specs.Sealing.{lot_seal_add, tells_added}
-use Rattle.std.proofs.Common.{rules}
 use Rattle.lotlog.proofs.sealing.lot_seal_add.Goals as goal
 
 pub returns : goal.returns

@@ -1,7 +1,6 @@
 -- `lotlog::sealing::lot_seal_check` meets its contract: the call does the work, and its answer is told.
 use Rattle.lotlog.specs.Telling.{tells_answer}
 use Rattle.lotlog.specs.Sealing.{lot_seal_check}
-use Rattle.std.proofs.Common.{rules}
 use Rattle.lotlog.proofs.sealing.lot_seal_check.Goals as goal
 
 pub returns : goal.returns

@@ -1,7 +1,6 @@
 -- `lotlog::storing::lot_append` meets its contract: the call does the work, and its answer is told.
 use Rattle.lotlog.specs.Telling.{tells_written}
 use Rattle.lotlog.specs.Outcomes.{lot_append}
-use Rattle.std.proofs.Common.{rules}
 use Rattle.lotlog.proofs.storing.lot_append.Goals as goal
 
 pub returns : goal.returns

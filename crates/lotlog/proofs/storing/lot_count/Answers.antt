@@ -1,7 +1,6 @@
 -- `lotlog::storing::lot_count` meets its contract: it tells what the call answers.
 use Rattle.lotlog.specs.Telling.{tells_answer}
 use Rattle.lotlog.specs.Outcomes.{lot_count}
-use Rattle.std.proofs.Common.{rules}
 use Rattle.lotlog.proofs.storing.lot_count.Goals as goal
 
 pub returns : goal.returns

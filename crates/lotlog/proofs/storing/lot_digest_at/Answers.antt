@@ -4,7 +4,6 @@ use Prim.Native.Nat.{ℕ}
 use Rattle.rules.specs.Calls.{Found}
 use Rattle.lotlog.specs.Exports.{leaves}
 use Rattle.lotlog.specs.Outcomes.{lot_digest_at}
-use Rattle.std.proofs.Common.{rules}
 use Rattle.lotlog.proofs.storing.lot_digest_at.Goals as goal
 
 pub returns : goal.returns

@@ -4,7 +4,6 @@ use Prim.Native.Nat.{ℕ}
 use Rattle.rules.specs.Calls.{Written}
 use Rattle.lotlog.specs.Exports.{left}
 use Rattle.lotlog.specs.Outcomes.{lot_start}
-use Rattle.std.proofs.Common.{rules}
 use Rattle.lotlog.proofs.storing.lot_start.Goals as goal
 
 pub returns : goal.returns

@@ -5,7 +5,6 @@ use native.Mathlib.Omega.{arith}
 use lib.ListN.{take, drop}
 use Rattle.rules.specs.Numbers.{v1}
 use Rattle.rules.specs.Messages.{size}
-use Rattle.std.proofs.Common.{rules}
 use Rattle.messages.proofs.component.component_at.Goals as goal
 
 pub returns : goal.returns

@@ -5,7 +5,6 @@ use native.Mathlib.Nat.{zero-add}
 use native.Mathlib.Omega.{arith}
 use lib.ListN.{take, drop}
 use Rattle.lists.specs.Bytes.{same}
-use Rattle.std.proofs.Common.{rules}
 use Rattle.messages.proofs.component.row_is.Goals as goal
 
 pub returns : goal.returns

@@ -2,7 +2,6 @@
 use mathlib.Core.Path.{ap}
 use Rattle.fips.specs.declared.Words.{Words}
 use Rattle.sha256.specs.Stream.{emptied, begun}
-use Rattle.std.proofs.Common.{rules}
 use Rattle.sha256.proofs.HashState.begin.Goals as goal
 
 pub returns : goal.returns

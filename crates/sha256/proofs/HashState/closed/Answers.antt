@@ -3,7 +3,7 @@ use mathlib.Core.Path.{◌≡◌, sym, ◌∙◌}
 use Prim.Native.Nat.{◌-◌}
 use native.Mathlib.Omega.{arith}
 use lib.ListN.{length}
-use Rattle.sha256.specs.Ending.{ended, ended_held}
+use Rattle.sha256.specs.Ending.{ended_held}
 use Rattle.std.proofs.Common.{rules}
 use Rattle.sha256.proofs.HashState.closed.Goals as goal
 

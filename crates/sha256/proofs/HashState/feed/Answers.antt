@@ -1,7 +1,6 @@
 -- `sha256::HashState::feed` meets its contract: the bytes stay within the block under way, or fill it and run on from the front of a block.
 use native.Mathlib.Omega.{arith}
 use Rattle.sha256.proofs.Feeding.{fed_within, fed_over}
-use Rattle.std.proofs.Common.{rules}
 use Rattle.sha256.proofs.HashState.feed.Goals as goal
 
 pub returns-then-bytes-room : goal.returns-then-bytes-room

@@ -4,7 +4,6 @@ use mathlib.Core.Bool.{false}
 use Rattle.fips.specs.Sha256.{bytes_of}
 use Rattle.sha256.specs.Stream.{broken}
 use Rattle.sha256.specs.Outcomes.{answered, sound_facts, finished_broken, finished_sound}
-use Rattle.std.proofs.Common.{rules}
 use Rattle.sha256.proofs.HashState.finish.Goals as goal
 use Rattle.sha256.proofs.HashState.finish.Goals.{Else-is_broken}
 

@@ -4,7 +4,6 @@ use mathlib.Core.Bool.{false}
 use native.Mathlib.Omega.{arith}
 use Rattle.sha256.specs.Stream.{broken}
 use Rattle.sha256.specs.Outcomes.{told, sound_facts, taken_broken, taken_long, taken_fits}
-use Rattle.std.proofs.Common.{rules}
 use Rattle.sha256.proofs.HashState.take.Goals as goal
 use Rattle.sha256.proofs.HashState.take.Goals.{Else-is_broken}
 
