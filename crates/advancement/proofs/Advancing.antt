@@ -17,9 +17,9 @@ use Rattle.rules.specs.Refusals.{row_differs, link_differs, digest_differs}
 use Rattle.rules.specs.Held.{Held}
 use Rattle.rules.specs.Checking.{Verdict, place, accepted, refused, must_at, must, agrees, off_row, hopped, advance_walk}
 use Rattle.rules.specs.Calls.{advance_answer}
-use Rattle.rules.specs.Hops.{level_hop, level_below, hops_step}
-use Rattle.rules.specs.Bounds.{total_first, total_after_step}
-use Rattle.rules.specs.Walking.{advance_walk_end}
+use Rattle.rules.proofs.Hops.{level_hop, level_below, hops_step}
+use Rattle.rules.proofs.Bounds.{total_first, total_after_step}
+use Rattle.rules.proofs.Walking.{advance_walk_end}
 use Rattle.held.specs.declared.Rows.{Rows}
 use Rattle.held.specs.declared.Rows.TheVariants.{Agree, Differ}
 use Rattle.held.specs.Rows.{rows_say}

@@ -14,9 +14,9 @@ use Rattle.rules.specs.Refusals.{state_broken, no_such_number, wrong_length, row
 use Rattle.rules.specs.Held as rules
 use Rattle.rules.specs.Checking.{Place, place, nowhere, Verdict, accepted, refused, must_at, upward, agrees, off_row, hopped, advance_walk, advance}
 use Rattle.rules.specs.Calls as calls
-use Rattle.rules.specs.Acceptance.{advance_hops, advance_in_order}
-use Rattle.rules.specs.HonestAdvance.{honest_advance}
-use Rattle.rules.specs.OneOutcome.{One, one_outcome}
+use Rattle.rules.proofs.Acceptance.{advance_hops, advance_in_order}
+use Rattle.rules.proofs.HonestAdvance.{honest_advance}
+use Rattle.rules.proofs.OneOutcome.{One, one_outcome}
 use Rattle.held.specs.declared.Held.{Held}
 use Rattle.held.specs.Holding.{holds, held_one}
 use Rattle.advancement.specs.declared.Advance.{Advance}

@@ -11,7 +11,7 @@ use Rattle.rules.specs.Refusals.{row_differs, link_differs}
 use Rattle.rules.specs.Held as rules
 use Rattle.rules.specs.Checking.{Place, place, Verdict, accepted, refused, advance}
 use Rattle.rules.specs.Calls as calls
-use Rattle.rules.specs.BrokenAdvance.{AdvanceBreaks, RowOff, DigestOff, begins, advance_row_broke, advance_link_broke}
+use Rattle.rules.proofs.BrokenAdvance.{AdvanceBreaks, RowOff, DigestOff, begins, advance_row_broke, advance_link_broke}
 use Rattle.held.specs.declared.Held.{Held}
 use Rattle.held.specs.Holding.{holds}
 use Rattle.advancement.specs.declared.Advance.TheVariants.{RowDiffers, LinkDiffers}

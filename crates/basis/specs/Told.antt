@@ -6,7 +6,7 @@ use Rattle.lists.specs.Bytes.{Bytes}
 use Rattle.rules.specs.Numbers.{v1}
 use Rattle.rules.specs.Refusals.{done, store_damaged}
 use Rattle.rules.specs.Calls.{HeldFound, held_found, held_call}
-use Rattle.rules.specs.OneOutcome.{One, one_outcome}
+use Rattle.rules.proofs.OneOutcome.{One, one_outcome}
 use Rattle.held.specs.Holding.{holds, held_from, held_back}
 use Rattle.held.specs.declared.Held.{Held}
 use Rattle.store.specs.declared.Found.{Found}

@@ -10,7 +10,7 @@ use borrow.Author.Tests.{leb-true, le-leb}
 use Rattle.lists.specs.Bytes.{Bytes}
 use Rattle.rules.specs.Numbers.{v1, limit}
 use Rattle.rules.specs.Store.{place, count_of, damaged}
-use Rattle.rules.specs.Places.{place_mono}
+use Rattle.rules.proofs.Places.{place_mono}
 use Rattle.path.specs.declared.Length.{Length}
 use Rattle.store.proofs.Laws.{InOrder}
 

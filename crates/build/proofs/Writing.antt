@@ -14,10 +14,10 @@ use Rattle.rules.specs.Paths.{tz, level, after, path, path_after}
 use Rattle.rules.specs.Messages.{size, total, links, components}
 use Rattle.rules.specs.Store.{place, body_of, t_of}
 use Rattle.rules.specs.Calls.{over}
-use Rattle.rules.specs.Hops.{hops_ind, after_step, after_end, level_hop}
-use Rattle.rules.specs.Places.{place_mono}
-use Rattle.rules.specs.Stored.{body_length}
-use Rattle.rules.specs.Bounds.{total_first, total_after_step}
+use Rattle.rules.proofs.Hops.{hops_ind, after_step, after_end, level_hop}
+use Rattle.rules.proofs.Places.{place_mono}
+use Rattle.rules.proofs.Stored.{body_length}
+use Rattle.rules.proofs.Bounds.{total_first, total_after_step}
 use Rattle.lists.specs.Pasting.{paste_all, paste_more}
 use Rattle.layout.specs.Linking.{linked_length}
 use Rattle.build.specs.Parts.{component_in, membership_in, advancement_in}

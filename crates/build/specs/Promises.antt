@@ -12,9 +12,9 @@ use Rattle.rules.specs.Store.{d_of}
 use Rattle.rules.specs.Held as rules
 use Rattle.rules.specs.Calls.{Answer, Advanced, Found, HeldFound, gives, written, digest_call, held_call, build_membership_call, build_advancement_call, audit_call, member_call, advance_call}
 use Rattle.rules.specs.Calls as calls
-use Rattle.rules.specs.OneOutcome.{One, one_outcome}
-use Rattle.rules.specs.Passed.{passed}
-use Rattle.rules.specs.Built.{taken, membership_built, advancement_built, built_membership, built_advancement}
+use Rattle.rules.proofs.OneOutcome.{One, one_outcome}
+use Rattle.rules.proofs.Passed.{passed}
+use Rattle.rules.proofs.Built.{taken, membership_built, advancement_built, built_membership, built_advancement}
 use Rattle.held.specs.Holding.{holds}
 use Rattle.store.specs.Told.{read_told}
 use Rattle.store.specs.declared.Read.{Read}

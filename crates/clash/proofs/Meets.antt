@@ -13,7 +13,7 @@ use Rattle.rules.specs.Calls.{over}
 use Rattle.dictionary.specs.Handles.{rows_of}
 use Rattle.dictionary.specs.Trie.{leaf_msg, crossing}
 use Rattle.dictionary.specs.Meeting.{Meets, two, lone, full_msg, meeting}
-use Rattle.dictionary.specs.Rows.{rows_length}
+use Rattle.dictionary.proofs.Rows.{rows_length}
 use Rattle.dictionary.specs.Calls.{Formed, formed, clashing, zeroed, showing}
 use Rattle.lookup.specs.Climbing.{Sized, depth_of, node_at, row_next}
 use Rattle.clash.specs.Found.{meet_of, Holds}

@@ -5,10 +5,10 @@ use Rattle.std.specs.Prelude.{◌≡◌, true, ◌≤◌, length}
 use Rattle.std.proofs.Common.{sym, ap, le-leb}
 use Rattle.lists.specs.Bytes.{Bytes}
 use Rattle.hash.specs.Hash.{hash_of, hash_length}
-use Rattle.rules.specs.OneOutcome.{One, one_outcome}
+use Rattle.rules.proofs.OneOutcome.{One, one_outcome}
 use Rattle.dictionary.specs.Handles.{handle}
 use Rattle.dictionary.specs.Calls.{Formed, formed, roomy, check_presence, check_absence, clash_call}
-use Rattle.dictionary.specs.Shown.{Ends, clash_ends}
+use Rattle.dictionary.proofs.Shown.{Ends, clash_ends}
 use Rattle.lookup.specs.Told.{verdict_number}
 use Rattle.lookup.specs.declared.Verdict.TheVariants.{Accepted}
 use Rattle.clash.specs.Told.{clash_told, clash_from, clash_back}

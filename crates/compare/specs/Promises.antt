@@ -7,15 +7,15 @@ use Rattle.hash.specs.Hash.{hash_of}
 use Rattle.rules.specs.Numbers.{v1}
 use Rattle.rules.specs.Store.{damaged, log_of, count_of}
 use Rattle.rules.specs.Calls.{gives, audit_call}
-use Rattle.rules.specs.OneOutcome.{One, one_outcome}
+use Rattle.rules.proofs.OneOutcome.{One, one_outcome}
 use Rattle.path.specs.declared.Position.{Position}
 use Rattle.copies.specs.Comparing.{common, equal, first_shorter, second_shorter, differ}
 use Rattle.copies.specs.Calls.{Outcome, found, refused, compare_call}
-use Rattle.copies.specs.Meaning.{SameTo, Differs, Comparable}
-use Rattle.copies.specs.Exactly.{found_shows, shows_found, damaged_refused, refused_damaged, other_refused, refused_other}
-use Rattle.copies.specs.Swapped as swapping
-use Rattle.copies.specs.Shared.{GiveTheSame, agreeing_gives}
-use Rattle.copies.specs.Sound as sound
+use Rattle.copies.proofs.Meaning.{SameTo, Differs, Comparable}
+use Rattle.copies.proofs.Exactly.{found_shows, shows_found, damaged_refused, refused_damaged, other_refused, refused_other}
+use Rattle.copies.proofs.Swapped as swapping
+use Rattle.copies.proofs.Shared.{GiveTheSame, agreeing_gives}
+use Rattle.copies.proofs.Sound as sound
 use Rattle.compare.specs.Told.{compared_told}
 use Rattle.compare.specs.declared.Compared.{Compared}
 use Rattle.compare.specs.declared.Compared.TheVariants.{Equal, FirstShorter, SecondShorter, Differ, Damaged, OtherLog}

@@ -10,10 +10,11 @@ use Rattle.rules.specs.Numbers.{v1}
 use Rattle.rules.specs.Checking.{Verdict, is_accepted, member}
 use Rattle.rules.specs.Dispute.{dispute, message_room, roomy}
 use Rattle.rules.specs.Calls.{Disputed, showing, both_accepted, dispute_call}
-use Rattle.rules.specs.Verdicts.{accepted_some, between_true}
-use Rattle.rules.specs.Acceptance.{accepts}
-use Rattle.rules.specs.Spots as spots
+use Rattle.rules.proofs.Verdicts.{accepted_some, between_true}
+use Rattle.rules.proofs.Acceptance.{accepts}
+use Rattle.rules.proofs.Spots as spots
 use Rattle.membership.specs.Verdicts.{verdict_of}
+use Rattle.membership.specs.declared.Verdict.{Verdict as Found}
 use Rattle.dispute.specs.Answers.{finding_of, outcome}
 use Rattle.dispute.specs.Ready.{Ready}
 use Rattle.dispute.specs.declared.settle.Answer.{Answer}

@@ -11,8 +11,8 @@ use Rattle.rules.specs.Numbers.{v1}
 use Rattle.rules.specs.Checking.{member}
 use Rattle.rules.specs.Dispute.{message_room, roomy}
 use Rattle.rules.specs.Calls.{dispute_call}
-use Rattle.rules.specs.Settled.{Clash}
-use Rattle.rules.specs.Shown as Rules
+use Rattle.rules.proofs.Settled.{Clash}
+use Rattle.rules.proofs.Shown as Rules
 use Rattle.membership.specs.Verdicts.{verdict_of}
 use Rattle.membership.specs.declared.Verdict.TheVariants.{Accepted}
 use Rattle.dispute.specs.Answers.{finding_of, outcome, one_answer}

@@ -12,8 +12,8 @@ use lib.ListN.{length, take, drop, drop_of_length-le}
 use borrow.Author.Tests.{lt-ltb, le-ltb}
 use Rattle.lists.specs.Bytes.{Bytes, AreBytes, same, number}
 use Rattle.dictionary.specs.Handles.{rows_of, rising_from, has}
-use Rattle.dictionary.specs.Rows.{rows_none, rows_more, rows_next}
-use Rattle.dictionary.specs.Bits.{word, row_words, word_bound}
+use Rattle.dictionary.proofs.Rows.{rows_none, rows_more, rows_next}
+use Rattle.dictionary.proofs.Bits.{word, row_words, word_bound}
 
 -- ---- two rows by their words
 

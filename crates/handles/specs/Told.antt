@@ -5,7 +5,7 @@ use Rattle.lists.specs.Bytes.{Bytes}
 use Rattle.hash.specs.Hash.{hash_of}
 use Rattle.rules.specs.Refusals.{done, too_long}
 use Rattle.rules.specs.Calls.{Found, found}
-use Rattle.rules.specs.OneOutcome.{One, one_outcome}
+use Rattle.rules.proofs.OneOutcome.{One, one_outcome}
 use Rattle.dictionary.specs.Calls.{handle_call}
 use Rattle.handles.specs.declared.key.HandleAnswer.{HandleAnswer}
 use Rattle.handles.specs.declared.key.HandleAnswer.TheVariants.{Done, KeyTooLong}

@@ -17,8 +17,8 @@ use Rattle.rules.specs.Paths.{tz}
 use Rattle.rules.specs.Messages.{row}
 use Rattle.rules.specs.Held.{odd, free_zero}
 use Rattle.rules.specs.Checking.{agrees, off_row, carried}
-use Rattle.rules.specs.Hops.{tz_max}
-use Rattle.rules.specs.Parity.{is_odd, half_pow}
+use Rattle.rules.proofs.Hops.{tz_max}
+use Rattle.rules.proofs.Parity.{is_odd, half_pow}
 use Rattle.held.specs.declared.Rows.TheVariants.{Agree, Differ}
 use Rattle.held.specs.Holding.{bytes_of, rows_of}
 use Rattle.held.specs.Rows.{rows_say}

@@ -4,7 +4,7 @@ use Rattle.std.proofs.Common.{ap}
 use Rattle.lists.specs.Bytes.{Bytes}
 use Rattle.hash.specs.declared.Digest.{Digest}
 use Rattle.rules.specs.Held as rules
-use Rattle.rules.specs.OneOutcome.{One, one_outcome}
+use Rattle.rules.proofs.OneOutcome.{One, one_outcome}
 use Rattle.held.specs.declared.Held.{Held}
 
 abbrev pub bytes_of : Digest → Bytes

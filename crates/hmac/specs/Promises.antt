@@ -1,7 +1,7 @@
 -- What the contract of this crate comes to, for the hash of this build. One outcome: two answers of `mac` that meet it are the same.
 use Rattle.lists.specs.Bytes.{Bytes}
 use Rattle.hash.specs.Hash.{hash_of}
-use Rattle.rules.specs.OneOutcome.{One, one_outcome}
+use Rattle.rules.proofs.OneOutcome.{One, one_outcome}
 use Rattle.seals.specs.Calls.{mac_call}
 use Rattle.hmac.specs.Told.{coded_told, coded_from, coded_back}
 

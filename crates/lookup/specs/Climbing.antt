@@ -5,7 +5,7 @@ use Rattle.lists.specs.Bytes.{Bytes}
 use Rattle.hash.specs.Hash.{hash_of}
 use Rattle.dictionary.specs.Handles.{rows_of}
 use Rattle.dictionary.specs.Trie.{crossing, climbed}
-use Rattle.dictionary.specs.Rows.{rows_at, rows_length}
+use Rattle.dictionary.proofs.Rows.{rows_at, rows_length}
 
 -- a proof of whole siblings, at most 256 of them
 pub record Sized (p : Bytes) : Type 0 where

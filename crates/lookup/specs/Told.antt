@@ -3,7 +3,7 @@ use Rattle.std.specs.Prelude.{◌≡◌, refl, cond, ℕ, eqb}
 use Rattle.lists.specs.Bytes.{Bytes}
 use Rattle.hash.specs.Hash.{hash_of}
 use Rattle.rules.specs.Refusals.{done, too_long}
-use Rattle.rules.specs.OneOutcome.{One, one_outcome, OneOf, one_of}
+use Rattle.rules.proofs.OneOutcome.{One, one_outcome, OneOf, one_of}
 use Rattle.dictionary.specs.Refusals.{proof_length, root_differs}
 use Rattle.dictionary.specs.Calls.{check_presence, check_absence}
 use Rattle.lookup.specs.declared.Verdict.{Verdict}

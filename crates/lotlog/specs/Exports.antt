@@ -4,7 +4,7 @@ use Rattle.std.specs.Prelude.{◌≡◌, refl, ◌≢◌, cond, List, [], ◌∷
 use Rattle.std.proofs.Common.{ne_eqb}
 use Rattle.lists.specs.Bytes.{Bytes}
 use Rattle.rules.specs.Refusals.{done}
-use Rattle.rules.specs.OneOutcome.{One, one_outcome}
+use Rattle.rules.proofs.OneOutcome.{One, one_outcome}
 use Rattle.rules.specs.Calls.{Answer, Written, Finding, all_same, shown, denied, Disputed}
 
 -- ---- a number and the answer

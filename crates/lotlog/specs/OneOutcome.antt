@@ -14,7 +14,7 @@ use Rattle.rules.specs.Held.{held_start}
 use Rattle.rules.specs.Checking.{member}
 use Rattle.rules.specs.Dispute.{differing}
 use Rattle.rules.specs.Calls.{written, start_call, count_call, append_call, digest_call, held_call, build_membership_call, build_advancement_call, audit_call, advance_call, Disputed, dispute_call}
-use Rattle.rules.specs.OneOutcome.{One, OneOf, one_of}
+use Rattle.rules.proofs.OneOutcome.{One, OneOf, one_of}
 use Rattle.store.specs.declared.Started.{Started}
 use Rattle.store.specs.declared.Appended.{Appended}
 use Rattle.store.specs.Told.{start_told, count_told, append_told, read_told}

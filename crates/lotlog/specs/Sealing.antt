@@ -4,7 +4,7 @@ use Rattle.std.proofs.Common.{ap, ap₂, ◌∙◌}
 use Rattle.lists.specs.Bytes.{Bytes}
 use Rattle.hash.specs.Hash.{hash_of}
 use Rattle.rules.specs.Calls.{Answer}
-use Rattle.rules.specs.OneOutcome.{One, one_outcome}
+use Rattle.rules.proofs.OneOutcome.{One, one_outcome}
 use Rattle.numbers.specs.declared.Said.{Said}
 use Rattle.numbers.specs.Saying.{answer_of, Says, says}
 use Rattle.seals.specs.Calls.{Added, added, mac_call, add_call, check_call}

@@ -15,9 +15,9 @@ use Rattle.rules.specs.Paths.{level, hops, path}
 use Rattle.rules.specs.Messages.{size, total}
 use Rattle.rules.specs.Refusals.{link_differs, digest_differs}
 use Rattle.rules.specs.Checking.{place, Verdict as Judged, accepted, must_at, must, walk}
-use Rattle.rules.specs.Hops.{level_hop, hops_step}
-use Rattle.rules.specs.Bounds.{total_step, total_first}
-use Rattle.rules.specs.Walking.{walk_end}
+use Rattle.rules.proofs.Hops.{level_hop, hops_step}
+use Rattle.rules.proofs.Bounds.{total_step, total_first}
+use Rattle.rules.proofs.Walking.{walk_end}
 use Rattle.membership.specs.declared.Walk.{Walk}
 use Rattle.membership.specs.declared.Hop.{Hop}
 use Rattle.membership.specs.declared.Hop.TheVariants.{Good}

@@ -6,7 +6,7 @@ use Rattle.hash.specs.Hash.{hash_of}
 use Rattle.rules.specs.Numbers.{v1}
 use Rattle.rules.specs.Paths.{hops}
 use Rattle.rules.specs.Checking.{place, member}
-use Rattle.rules.specs.Broken.{LinkBreaks, begun, member_broke}
+use Rattle.rules.proofs.Broken.{LinkBreaks, begun, member_broke}
 use Rattle.membership.specs.declared.Verdict.{Verdict}
 use Rattle.membership.specs.declared.Verdict.TheVariants.{LinkDiffers}
 use Rattle.membership.specs.Verdicts.{verdict_of}

@@ -4,7 +4,7 @@ use Rattle.std.proofs.Common.{arith, length-drop, length-take-le}
 use Rattle.lists.specs.Bytes.{Bytes}
 use Rattle.rules.specs.Numbers.{v1}
 use Rattle.rules.specs.Messages.{size, part}
-use Rattle.rules.specs.Hops.{tz_few}
+use Rattle.rules.proofs.Hops.{tz_few}
 
 -- A component that stands inside a proof has its whole length,
 pub part_length : (p : Bytes) (o j : ℕ) → o + size v1 j ≤ length p → length (part v1 p o j) ≡ size v1 j

@@ -10,7 +10,7 @@ use Rattle.rules.specs.Numbers.{v1}
 use Rattle.rules.specs.Paths.{path}
 use Rattle.rules.specs.Messages.{size, total}
 use Rattle.rules.specs.Dispute.{nearest}
-use Rattle.rules.specs.Spots.{nearest_inside}
+use Rattle.rules.proofs.Spots.{nearest_inside}
 use Rattle.place.specs.Places.{spot_of}
 use Rattle.place.specs.declared.Spot.{Spot}
 use Rattle.place.specs.declared.Spot.TheVariants.{Nowhere, At}

@@ -8,7 +8,7 @@ use Rattle.rules.specs.Paths.{path}
 use Rattle.rules.specs.Messages.{total}
 use Rattle.rules.specs.Checking.{between}
 use Rattle.rules.specs.Dispute.{Part as Place, nearest, part_of, differing}
-use Rattle.rules.specs.Spots.{nearest_inside, differing_is}
+use Rattle.rules.proofs.Spots.{nearest_inside, differing_is}
 use Rattle.place.specs.declared.Spot.{Spot}
 use Rattle.place.specs.declared.Spot.TheVariants.{Nowhere, At}
 use Rattle.place.specs.declared.Part.{Part}

@@ -5,8 +5,7 @@ ghost use Rattle.std.specs.Prelude.{◌≡◌, ◌+◌, ◌≤◌, length};
 ghost use Rattle.rules.specs.Numbers.{v1};
 ghost use Rattle.rules.specs.Paths.{path};
 ghost use Rattle.rules.specs.Messages.{size, total};
-ghost use Rattle.rules.specs.Dispute.{or_else, nearest, differing as differing_part};
-ghost use Rattle.rules.specs.Spots.{differs_at};
+ghost use Rattle.rules.specs.Dispute.{or_else, nearest, differing as differing_part, differs_at};
 ghost use Rattle.place.specs.Places.{spot_of, part_is, cut};
 
 use messages::component_at;

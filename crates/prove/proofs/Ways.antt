@@ -15,8 +15,8 @@ use Rattle.hash.specs.Hash.{hash_of, hash_length}
 use Rattle.rules.specs.Calls.{over}
 use Rattle.dictionary.specs.Handles.{turn, side, rows_of, flat}
 use Rattle.dictionary.specs.Trie.{subtree, way}
-use Rattle.dictionary.specs.Rows.{rows_none, rows_more, flat_length}
-use Rattle.dictionary.specs.Honest.{subtree_length, way_whole}
+use Rattle.dictionary.proofs.Rows.{rows_none, rows_more, flat_length}
+use Rattle.dictionary.proofs.Honest.{subtree_length, way_whole}
 use Rattle.trie.specs.Tidy.{Sided}
 
 -- the way of k over the list s, below a node with e levels

@@ -7,10 +7,10 @@ use Rattle.hash.specs.Hash.{hash_of, hash_length, hash_bytes}
 use Rattle.rules.specs.Refusals.{done}
 use Rattle.rules.specs.Calls.{Found, written}
 use Rattle.rules.specs.Calls as calls
-use Rattle.rules.specs.OneOutcome.{One, one_outcome}
+use Rattle.rules.proofs.OneOutcome.{One, one_outcome}
 use Rattle.dictionary.specs.Handles.{listed}
 use Rattle.dictionary.specs.Calls.{key_long, proof_of, is_present, root_call, presence_call, absence_call, check_presence, check_absence}
-use Rattle.dictionary.specs.Built.{presence_built, absence_built, presence_refused, absence_refused, built_presence, built_absence}
+use Rattle.dictionary.proofs.Built.{presence_built, absence_built, presence_refused, absence_refused, built_presence, built_absence}
 use Rattle.trie.specs.Told.{root_told}
 use Rattle.trie.specs.declared.RootRead.{RootRead}
 use Rattle.prove.specs.Told.{built_told, built_from, built_back}

@@ -28,6 +28,10 @@ module _ (v : Version) where
   nearest [] p q o = none
   nearest (j ∷ js) p q o = or_else (nearest js p q (o + size v j)) (unlike (same (part v p o j) (part v q o j)) (j, o))
 
+  -- the component for j at o, where the two differ
+  abbrev pub differs_at : Bytes → Bytes → ℕ → ℕ → Option (ℕ × ℕ)
+  differs_at p q j o = unlike (same (part v p o j) (part v q o j)) (j, o)
+
   -- "gives the two element messages"
   abbrev pub messages : Bytes → Bytes → Option (ℕ × ℕ) → Option (Bytes × Bytes)
   messages p q none = none

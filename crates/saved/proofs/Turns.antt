@@ -15,11 +15,11 @@ use Rattle.lists.specs.Pasting.{paste_all, paste_more}
 use Rattle.rules.specs.Numbers.{v1, limit}
 use Rattle.rules.specs.Held.{Held, odd}
 use Rattle.rules.specs.Calls.{over}
-use Rattle.rules.specs.Parity.{halve}
+use Rattle.rules.proofs.Parity.{halve}
 use Rattle.held.proofs.Turns.{is_used, is_free}
 use Rattle.file_form.specs.Form.{hld, head, head_size, in_use, file_of, file_size, rows_in}
-use Rattle.file_form.specs.Rows.{none_left, row_size, use_more}
-use Rattle.file_form.specs.Back.{few_bits}
+use Rattle.file_form.proofs.Rows.{none_left, row_size, use_more}
+use Rattle.file_form.proofs.Back.{few_bits}
 
 -- ---- one row
 

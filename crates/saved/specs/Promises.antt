@@ -11,15 +11,15 @@ use Rattle.rules.specs.Held.{Sized, is_in_order}
 use Rattle.rules.specs.Held as rules
 use Rattle.rules.specs.Calls.{HeldFound, held_found, written, gives, over, advance_call}
 use Rattle.rules.specs.Calls as calls
-use Rattle.rules.specs.OneOutcome.{One, one_outcome}
-use Rattle.rules.specs.Wider.{widened, twenty}
+use Rattle.rules.proofs.OneOutcome.{One, one_outcome}
+use Rattle.rules.proofs.Wider.{widened, twenty}
 use Rattle.held.specs.declared.Held.{Held}
 use Rattle.held.specs.Holding.{holds, held_one}
 use Rattle.file_form.specs.Form.{file_of, file_size}
 use Rattle.file_form.specs.Calls.{write_call, read_call}
-use Rattle.file_form.specs.Back.{file_size_lem, order_few}
-use Rattle.file_form.specs.Wider.{older_reads}
-use Rattle.file_form.specs.OneFile.{Writes, writes, writes_file, broken_refused, file_reads, read_in_order, read_writes}
+use Rattle.file_form.proofs.Back.{file_size_lem, order_few}
+use Rattle.file_form.proofs.Wider.{older_reads}
+use Rattle.file_form.proofs.OneFile.{Writes, writes, writes_file, broken_refused, file_reads, read_in_order, read_writes}
 use Rattle.saved.specs.Told.{saved_told, saved_from, saved_back, file_told, file_from, told_back}
 use Rattle.saved.specs.declared.Saved.{Saved}
 use Rattle.saved.specs.declared.Saved.TheVariants.{Written, StateBroken}

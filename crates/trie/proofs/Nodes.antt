@@ -10,7 +10,7 @@ use Rattle.lists.specs.Bytes.{Bytes, zeros}
 use Rattle.hash.specs.Hash.{hash_of}
 use Rattle.dictionary.specs.Handles.{side, rows_of}
 use Rattle.dictionary.specs.Trie.{leaf_msg, inner_msg, subtree}
-use Rattle.dictionary.specs.Rows.{rows_none, rows_more}
+use Rattle.dictionary.proofs.Rows.{rows_none, rows_more}
 use Rattle.trie.specs.Tidy.{Sided}
 
 pub node_empty : (e : ℕ) (s : Bytes) → length s ≡ 0 → zeros ≡ subtree hash_of e (rows_of s)

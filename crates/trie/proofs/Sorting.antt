@@ -8,9 +8,9 @@ use native.Mathlib.Numerals.{add-one}
 use lib.ListN.{length, take, drop, length-drop, drop_of_length-le}
 use lib.Seq.{length-take-le}
 use Rattle.lists.specs.Bytes.{Bytes}
-use Rattle.dictionary.specs.Handles.{turn, side, rows_of}
-use Rattle.dictionary.specs.Rows.{rows_none, rows_next, rows_take, rows_drop, rows_length}
-use Rattle.dictionary.specs.Sides.{leading, digit, side_near, side_rises, split}
+use Rattle.dictionary.specs.Handles.{turn, side, rows_of, leading}
+use Rattle.dictionary.proofs.Rows.{rows_none, rows_next, rows_take, rows_drop, rows_length}
+use Rattle.dictionary.proofs.Sides.{digit, side_near, side_rises, split}
 use Rattle.trie.specs.Tidy.{Tidy, Sided}
 
 -- ---- the search: what lies before `at` has bit 0

@@ -4,9 +4,9 @@ use Rattle.std.proofs.Math.Bool.{and-eq-true_iff}
 use Rattle.std.proofs.Common.{arith, eqb-true}
 use Rattle.lists.specs.Bytes.{Bytes, AreBytes}
 use Rattle.dictionary.specs.Handles.{side, rows_of, rising_from, listed}
-use Rattle.dictionary.specs.Rows.{all_map, rows_bytes_lem}
-use Rattle.dictionary.specs.Sides.{Near, Rises, rises}
-use Rattle.dictionary.specs.Bits.{row_below}
+use Rattle.dictionary.proofs.Rows.{all_map, rows_bytes_lem}
+use Rattle.dictionary.proofs.Sides.{Near, Rises, rises}
+use Rattle.dictionary.proofs.Bits.{row_below}
 
 pub record Tidy (e : ℕ) (s : Bytes) : Type 0 where
   pub whole : length s % 32 ≡ 0

@@ -5,7 +5,7 @@ use Rattle.lists.specs.Bytes.{Bytes}
 use Rattle.hash.specs.Hash.{hash_of}
 use Rattle.rules.specs.Refusals.{done}
 use Rattle.rules.specs.Calls.{Found, found}
-use Rattle.rules.specs.OneOutcome.{One, one_outcome}
+use Rattle.rules.proofs.OneOutcome.{One, one_outcome}
 use Rattle.dictionary.specs.Refusals.{list_refused}
 use Rattle.dictionary.specs.Calls.{root_call}
 use Rattle.trie.specs.declared.RootAnswer.{RootAnswer}

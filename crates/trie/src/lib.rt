@@ -3,9 +3,8 @@
 
 ghost use Rattle.std.specs.Prelude.{◌≡◌, ◌+◌, ◌*◌, ◌%◌, ◌≤◌, ◌<◌, length};
 ghost use Rattle.hash.specs.Hash.{hash_of};
-ghost use Rattle.dictionary.specs.Handles.{rows_of};
+ghost use Rattle.dictionary.specs.Handles.{rows_of, leading};
 ghost use Rattle.dictionary.specs.Trie.{subtree as node_of};
-ghost use Rattle.dictionary.specs.Sides.{leading};
 ghost use Rattle.dictionary.specs.Calls.{root_call};
 ghost use Rattle.trie.specs.Tidy.{Tidy, Sided};
 ghost use Rattle.trie.specs.Told.{root_told};

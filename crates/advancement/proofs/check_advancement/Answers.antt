@@ -15,8 +15,8 @@ use Rattle.rules.specs.Refusals.{state_broken, no_such_number, wrong_length}
 use Rattle.rules.specs.Held.{Held, is_in_order}
 use Rattle.rules.specs.Checking.{must, upward, advance_walk}
 use Rattle.rules.specs.Calls.{advance_answer, advance_call}
-use Rattle.rules.specs.Verdicts.{upward_true}
-use Rattle.rules.specs.Walking.{advance_is}
+use Rattle.rules.proofs.Verdicts.{upward_true}
+use Rattle.rules.proofs.Walking.{advance_is}
 use Rattle.held.specs.Holding.{holds}
 use Rattle.advancement.proofs.check_advancement.Goals as goal
 use Rattle.advancement.proofs.check_advancement.Goals.{After-advancement_len, Else-not-ahead, Else-not-is_in_order, Else-proof-advancement_len, Then-proof-advancement_len}

@@ -6,7 +6,7 @@ use lib.ListN.{length}
 use Rattle.rules.specs.Numbers.{v1}
 use Rattle.rules.specs.Messages.{size}
 use Rattle.rules.specs.Calls.{advance_answer}
-use Rattle.rules.specs.Bounds.{advancement_v1}
+use Rattle.rules.proofs.Bounds.{advancement_v1}
 use Rattle.held.specs.Holding.{holds}
 use Rattle.advancement.specs.declared.Advance.{Advance}
 use Rattle.advancement.specs.Advancing.{answer_of, step_of}

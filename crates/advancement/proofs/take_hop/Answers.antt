@@ -10,7 +10,7 @@ use Rattle.rules.specs.Numbers.{v1}
 use Rattle.hash.specs.Hash.{hash_of}
 use Rattle.rules.specs.Messages.{element_msg, row}
 use Rattle.rules.specs.Checking.{rows_after}
-use Rattle.rules.specs.Hops.{hop_tz}
+use Rattle.rules.proofs.Hops.{hop_tz}
 use Rattle.held.specs.Holding.{holds}
 use Rattle.held.specs.declared.Rows.TheVariants.{Agree}
 use Rattle.advancement.specs.declared.Hop.TheVariants.{Good, Row, Link}

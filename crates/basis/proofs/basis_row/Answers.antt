@@ -4,7 +4,7 @@ use native.Mathlib.Omega.{arith}
 use Rattle.hash.specs.Hash.{hash_of}
 use Rattle.rules.specs.Numbers.{v1}
 use Rattle.rules.specs.Store.{t_of}
-use Rattle.rules.specs.Places.{place_mono}
+use Rattle.rules.proofs.Places.{place_mono}
 use Rattle.basis.proofs.Filling.{shifts_le, row_free, row_used}
 use Rattle.basis.proofs.basis_row.Goals as goal
 

@@ -10,8 +10,8 @@ use Rattle.rules.specs.Refusals.{done, store_damaged, no_such_number}
 use Rattle.rules.specs.Held.{held_of}
 use Rattle.rules.specs.Store.{place, log_of, t_of}
 use Rattle.rules.specs.Calls.{held_found}
-use Rattle.rules.specs.Places.{place_mono}
-use Rattle.rules.specs.Answers.{held_damaged, held_above, held_done}
+use Rattle.rules.proofs.Places.{place_mono}
+use Rattle.rules.proofs.Answers.{held_damaged, held_above, held_done}
 use Rattle.held.specs.Holding.{holds}
 use Rattle.store.proofs.Laws.{InOrder, in_order, broken}
 use Rattle.basis.proofs.held_at.Goals as goal

@@ -9,8 +9,8 @@ use Rattle.rules.specs.Numbers.{v1}
 use Rattle.rules.specs.Paths.{path_after}
 use Rattle.rules.specs.Messages.{total}
 use Rattle.rules.specs.Calls.{Written, written, gives}
-use Rattle.rules.specs.Verdicts.{upward_test}
-use Rattle.rules.specs.Answers.{build_damaged, build_unasked, build_short, build_done}
+use Rattle.rules.proofs.Verdicts.{upward_test}
+use Rattle.rules.proofs.Answers.{build_damaged, build_unasked, build_short, build_done}
 use Rattle.store.proofs.Laws.{InOrder, in_order, broken}
 use Rattle.build.specs.Parts.{advancement_in}
 use Rattle.build.proofs.Asking.{Covers, covers, uncovered, size_told}

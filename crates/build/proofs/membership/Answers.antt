@@ -9,9 +9,9 @@ use Rattle.rules.specs.Numbers.{v1}
 use Rattle.rules.specs.Paths.{path}
 use Rattle.rules.specs.Messages.{total}
 use Rattle.rules.specs.Calls.{Written, written, gives}
-use Rattle.rules.specs.Verdicts.{between_test}
-use Rattle.rules.specs.Bounds.{total_first}
-use Rattle.rules.specs.Answers.{build_damaged, build_unasked, build_short, build_done}
+use Rattle.rules.proofs.Verdicts.{between_test}
+use Rattle.rules.proofs.Bounds.{total_first}
+use Rattle.rules.proofs.Answers.{build_damaged, build_unasked, build_short, build_done}
 use Rattle.store.proofs.Laws.{InOrder, in_order, broken}
 use Rattle.build.specs.Parts.{membership_in}
 use Rattle.build.proofs.Asking.{Covers, covers, uncovered, size_told, start_unasked, element_asked}

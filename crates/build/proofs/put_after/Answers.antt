@@ -5,7 +5,7 @@ use native.Mathlib.Nat.{le_trans}
 use native.Mathlib.Omega.{arith}
 use Rattle.hash.specs.Hash.{hash_of, hash_length}
 use Rattle.rules.specs.Numbers.{v1}
-use Rattle.rules.specs.Places.{place_mono}
+use Rattle.rules.proofs.Places.{place_mono}
 use Rattle.build.proofs.Writing.{Hopped, hopped, advancement_step, advancement_end}
 use Rattle.build.proofs.put_after.Goals as goal
 use Rattle.build.proofs.put_after.Goals.{After-hop-r}

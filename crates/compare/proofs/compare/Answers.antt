@@ -14,7 +14,7 @@ use Rattle.copies.specs.Comparing as rule
 use Rattle.copies.specs.Comparing.{Finding, equal, first_shorter, second_shorter, differ, first_not, same_element, element_at, byte_at, finding}
 use Rattle.copies.specs.Refusals.{other_log}
 use Rattle.copies.specs.Calls.{found, refused, compare_call}
-use Rattle.copies.specs.Answers.{compare_is, finding_is}
+use Rattle.copies.proofs.Answers.{compare_is, finding_is}
 use Rattle.path.specs.declared.Length.{Length}
 use Rattle.store.proofs.Laws.{InOrder, in_order, broken}
 use Rattle.compare.proofs.compare.Goals as goal

@@ -6,7 +6,7 @@ use Rattle.lists.specs.Bytes.{Bytes, same}
 use Rattle.rules.specs.Numbers.{v1}
 use Rattle.rules.specs.Store.{fields_of}
 use Rattle.copies.specs.Comparing.{first_not, same_element, same_byte}
-use Rattle.copies.specs.First.{first_step, first_stop, first_end, byte_same, byte_other, string_other, string_same}
+use Rattle.copies.proofs.First.{first_step, first_stop, first_end, byte_same, byte_other, string_other, string_same}
 use Rattle.lists.specs.Same.{same_eq}
 use Rattle.compare.proofs.first_difference.Goals as goal
 

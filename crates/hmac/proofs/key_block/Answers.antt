@@ -12,7 +12,7 @@ use Rattle.lists.specs.Pasting.{paste_all}
 use Rattle.hash.specs.Hash.{hash_of, hash_length}
 use Rattle.hash.specs.Joined.{joined_short}
 use Rattle.seals.specs.Hmac.{block_size}
-use Rattle.seals.specs.Blocks.{block_long, block_short}
+use Rattle.seals.proofs.Blocks.{block_long, block_short}
 use Rattle.hmac.proofs.key_block.Goals as goal
 use Rattle.hmac.proofs.key_block.Goals.{After-joined}
 

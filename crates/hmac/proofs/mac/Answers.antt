@@ -4,7 +4,7 @@ use native.Mathlib.Omega.{arith}
 use Rattle.hash.specs.Hash.{hash_of}
 use Rattle.rules.specs.Refusals.{done}
 use Rattle.rules.specs.Calls.{found}
-use Rattle.seals.specs.Blocks.{key_long_lem, message_long, mac_done}
+use Rattle.seals.proofs.Blocks.{key_long_lem, message_long, mac_done}
 use Rattle.hmac.proofs.mac.Goals as goal
 
 pub returns-then-key-gt-LIMIT : goal.returns-then-key-gt-LIMIT

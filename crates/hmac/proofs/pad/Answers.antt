@@ -5,7 +5,7 @@ use native.Mathlib.Omega.{arith}
 use lib.Bits.{bit_xor}
 use lib.ListN.{get_or, set}
 use Rattle.lists.specs.Bytes.{Bytes}
-use Rattle.seals.specs.Blocks.{halfway_none, halfway_next, halfway_all}
+use Rattle.seals.proofs.Blocks.{halfway_none, halfway_next, halfway_all}
 use Rattle.std.proofs.Common.{rules}
 use Rattle.hmac.proofs.pad.Goals as goal
 

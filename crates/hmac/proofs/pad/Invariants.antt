@@ -2,7 +2,7 @@
 use mathlib.Core.Path.{◌≡◌}
 use Prim.Native.Nat.{◌-◌, ◌≤◌}
 use lib.ListN.{length}
-use Rattle.seals.specs.Blocks.{halfway}
+use Rattle.seals.proofs.Blocks.{halfway}
 use Rattle.hmac.proofs.pad.Given as goal
 
 abbrev pub invariant-loop-i : goal.invariant-loop-i

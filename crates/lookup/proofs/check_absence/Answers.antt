@@ -11,7 +11,7 @@ use Rattle.rules.specs.Numbers.{entry_limit}
 use Rattle.dictionary.specs.Handles.{handle, rows_of}
 use Rattle.dictionary.specs.Trie.{shown_empty}
 use Rattle.dictionary.specs.Calls.{key_long}
-use Rattle.dictionary.specs.Answers.{absence_is}
+use Rattle.dictionary.proofs.Answers.{absence_is}
 use Rattle.lookup.specs.Told.{verdict_number}
 use Rattle.lookup.proofs.check_absence.Goals as goal
 use Rattle.lookup.proofs.check_absence.Goals.{After-leads_to, Else-key-gt-KEY_LIMIT, Else-proof-gt-LONGEST, Else-proof-ne0}

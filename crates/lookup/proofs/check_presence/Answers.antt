@@ -9,7 +9,7 @@ use Rattle.rules.specs.Numbers.{entry_limit}
 use Rattle.dictionary.specs.Handles.{handle, rows_of}
 use Rattle.dictionary.specs.Trie.{climbed, shown_full}
 use Rattle.dictionary.specs.Calls.{key_long}
-use Rattle.dictionary.specs.Answers.{presence_is}
+use Rattle.dictionary.proofs.Answers.{presence_is}
 use Rattle.lookup.specs.Told.{verdict_number}
 use Rattle.lookup.proofs.check_presence.Goals as goal
 use Rattle.lookup.proofs.check_presence.Goals.{After-leads_to, Else-key-gt-KEY_LIMIT}

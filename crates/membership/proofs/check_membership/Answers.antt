@@ -13,9 +13,9 @@ use Rattle.rules.specs.Paths.{hops, path}
 use Rattle.rules.specs.Messages.{entry_msg, element_msg, size, total, row, part}
 use Rattle.rules.specs.Refusals.{too_long, no_such_number, wrong_length, other_entry}
 use Rattle.rules.specs.Checking.{Verdict as Judged, must, between, digest_at, walk, member}
-use Rattle.rules.specs.Verdicts.{between_true}
-use Rattle.rules.specs.Bounds.{total_first}
-use Rattle.rules.specs.Walking.{row_at, member_is}
+use Rattle.rules.proofs.Verdicts.{between_true}
+use Rattle.rules.proofs.Bounds.{total_first}
+use Rattle.rules.proofs.Walking.{row_at, member_is}
 use Rattle.messages.specs.Parts.{part_length, size_short}
 use Rattle.membership.specs.Verdicts.{verdict_of}
 use Rattle.membership.proofs.check_membership.Goals as goal

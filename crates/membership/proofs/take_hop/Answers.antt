@@ -11,7 +11,7 @@ use Rattle.hash.specs.declared.Digest.{Digest}
 use Rattle.path.specs.declared.Position.{Position}
 use Rattle.rules.specs.Numbers.{v1}
 use Rattle.rules.specs.Messages.{element_msg, size, row, part}
-use Rattle.rules.specs.Hops.{hop_links}
+use Rattle.rules.proofs.Hops.{hop_links}
 use Rattle.membership.specs.declared.Walk.{Walk}
 use Rattle.membership.specs.declared.Hopped.{Hopped}
 use Rattle.membership.specs.declared.Hop.TheVariants.{Good, Link}

@@ -7,8 +7,8 @@ use lib.ListN.{length, get_or, take, drop}
 use Rattle.lists.specs.Bytes.{Bytes, AreBytes}
 use Rattle.lists.specs.Laws.{get_d_part}
 use Rattle.dictionary.specs.Handles.{turn}
-use Rattle.dictionary.specs.Bits.{turn_byte}
-use Rattle.dictionary.specs.Rows.{part_row}
+use Rattle.dictionary.proofs.Bits.{turn_byte}
+use Rattle.dictionary.proofs.Rows.{part_row}
 use Rattle.node.proofs.turns.Goals as goal
 
 bit : (s : Bytes) (at e : ℕ) → AreBytes s → at + 32 ≤ length s → e < 256 → eqb (get_or s (at + (31 - e / 8)) 0 / 2 ^ (e % 8) % 2) 1 ≡ turn e (take 32 (drop at s))

@@ -11,8 +11,8 @@ use Rattle.rules.specs.Paths.{path}
 use Rattle.rules.specs.Messages.{size, total}
 use Rattle.rules.specs.Checking.{between}
 use Rattle.rules.specs.Dispute.{nearest, part_of, differing}
-use Rattle.rules.specs.Verdicts.{between_true}
-use Rattle.rules.specs.Spots.{differing_is}
+use Rattle.rules.proofs.Verdicts.{between_true}
+use Rattle.rules.proofs.Spots.{differing_is}
 use Rattle.place.specs.Places.{spot_of}
 use Rattle.place.proofs.Spotting.{nowhere}
 use Rattle.place.proofs.differing_at.Goals as goal

@@ -10,10 +10,10 @@ use Rattle.lists.specs.Bytes.{Bytes}
 use Rattle.rules.specs.Numbers.{v1}
 use Rattle.rules.specs.Paths.{level, path, path_after}
 use Rattle.rules.specs.Messages.{size, total}
-use Rattle.rules.specs.Dispute.{or_else, nearest}
-use Rattle.rules.specs.Hops.{level_hop}
-use Rattle.rules.specs.Bounds.{total_first, total_after_step}
-use Rattle.rules.specs.Spots.{differs_at, nearest_start, nearest_step, nearest_end}
+use Rattle.rules.specs.Dispute.{or_else, nearest, differs_at}
+use Rattle.rules.proofs.Hops.{level_hop}
+use Rattle.rules.proofs.Bounds.{total_first, total_after_step}
+use Rattle.rules.proofs.Spots.{nearest_start, nearest_step, nearest_end}
 use Rattle.place.specs.Places.{spot_of}
 use Rattle.place.proofs.find.Invariants.{Seen}
 use Rattle.place.proofs.find.Goals as goal

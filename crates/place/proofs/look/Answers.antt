@@ -5,8 +5,7 @@ use Prim.Native.Nat.{ℕ}
 use Rattle.lists.specs.Bytes.{Bytes, same}
 use Rattle.rules.specs.Numbers.{v1}
 use Rattle.rules.specs.Messages.{part}
-use Rattle.rules.specs.Dispute.{unlike}
-use Rattle.rules.specs.Spots.{differs_at}
+use Rattle.rules.specs.Dispute.{unlike, differs_at}
 use Rattle.place.proofs.look.Goals as goal
 
 compared : (p q : Bytes) (j at : ℕ) {x y : Bytes} {b t : Bool} → x ≡ part v1 p at j → y ≡ part v1 q at j → b ≡ same x y → b ≡ t → differs_at v1 p q j at ≡ unlike t (j, at)

@@ -12,7 +12,7 @@ use Rattle.rules.specs.Numbers.{entry_limit}
 use Rattle.rules.specs.Calls.{Written, written, gives}
 use Rattle.dictionary.specs.Handles.{is, handle, rows_of, flat, listed, has}
 use Rattle.dictionary.specs.Calls.{key_long, is_present, proof_of}
-use Rattle.dictionary.specs.Answers.{prove_is}
+use Rattle.dictionary.proofs.Answers.{prove_is}
 use Rattle.trie.specs.Tidy.{Tidy, tidy_all}
 use Rattle.prove.proofs.Ways.{way_over, sized, over_start}
 use Rattle.prove.proofs.build.Goals as goal

@@ -4,7 +4,7 @@ use native.Mathlib.Omega.{arith}
 use lib.ListN.{length}
 use Rattle.rules.specs.Numbers.{v1}
 use Rattle.held.specs.Holding.{holds}
-use Rattle.file_form.specs.Back.{head_size_lem}
+use Rattle.file_form.proofs.Back.{head_size_lem}
 use Rattle.saved.proofs.Turns.{head_written}
 use Rattle.std.proofs.Common.{rules}
 use Rattle.saved.proofs.put_head.Goals as goal

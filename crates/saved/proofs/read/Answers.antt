@@ -13,7 +13,7 @@ use Rattle.rules.specs.Held.{is_in_order}
 use Rattle.rules.specs.Calls.{held_found}
 use Rattle.file_form.specs.Form.{hld, head_size, file_size, mark_in, version_in, count_in, state_in}
 use Rattle.file_form.specs.Calls.{unread, read_call}
-use Rattle.file_form.specs.Answers.{read_is}
+use Rattle.file_form.proofs.Answers.{read_is}
 use Rattle.saved.proofs.read.Goals as goal
 use Rattle.saved.proofs.read.Goals.{After-file_len, After-is_in_order, Else-count-gt-LIMIT, Else-file-file_len, Else-file-lt-HEAD, Else-not-is_marked, Else-not-is_of_version}
 

@@ -12,8 +12,8 @@ use Rattle.rules.specs.Held.{is_in_order}
 use Rattle.rules.specs.Calls.{Written, written, gives}
 use Rattle.held.specs.Holding.{holds}
 use Rattle.file_form.specs.Form.{file_size}
-use Rattle.file_form.specs.Answers.{write_is}
-use Rattle.file_form.specs.Back.{order_few}
+use Rattle.file_form.proofs.Answers.{write_is}
+use Rattle.file_form.proofs.Back.{order_few}
 use Rattle.saved.proofs.Turns.{file_written}
 use Rattle.saved.proofs.write.Goals as goal
 use Rattle.saved.proofs.write.Goals.{Else-not-is_in_order}

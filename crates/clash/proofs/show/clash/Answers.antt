@@ -11,8 +11,8 @@ use Rattle.rules.specs.Refusals.{done}
 use Rattle.dictionary.specs.Handles.{rows_of}
 use Rattle.dictionary.specs.Meeting.{Meets, meeting}
 use Rattle.dictionary.specs.Calls.{roomy, showing, check_presence, check_absence}
-use Rattle.dictionary.specs.Answers.{clash_is}
-use Rattle.dictionary.specs.Accepted.{Full, full, Empty, empty}
+use Rattle.dictionary.proofs.Answers.{clash_is}
+use Rattle.dictionary.proofs.Accepted.{Full, full, Empty, empty}
 use Rattle.clash.proofs.show.clash.Goals as goal
 use Rattle.clash.proofs.show.clash.Goals.{After-is_accepted, After-is_accepted-2, Else-not-is_accepted, Else-not-is_accepted-2, Else-out2-lt-ROOM}
 

@@ -9,7 +9,7 @@ use Rattle.rules.specs.Paths.{path}
 use Rattle.rules.specs.Messages.{entry_msg}
 use Rattle.rules.specs.Dispute.{unlike, nearest, messages, dispute}
 use Rattle.rules.specs.Calls.{Disputed, showing}
-use Rattle.rules.specs.Spots.{dispute_is}
+use Rattle.rules.proofs.Spots.{dispute_is}
 use Rattle.place.specs.Places.{spot_of}
 use Rattle.place.proofs.Spotting.{nowhere, inside}
 use Rattle.dispute.proofs.settle.settle.Goals as goal
