@@ -4,30 +4,30 @@
 
 ghost use Rattle.std.specs.Prelude.{◌≤◌, ◌<◌};
 
-use libc::STDOUT_FILENO;
 use sha256::{HashState, Hashed, Taken};
+use std::io;
 
-fn say(text: &[u8]) {
-    io::write_all(STDOUT_FILENO, text);
+fn say(rt: &impl Print, text: &str) -> io::Result<()> {
+    print!(rt; "{text}")
 }
 
-fn say_number(n: u64) {
-    io::print_decimal(STDOUT_FILENO, n);
+fn say_number(rt: &impl Print, n: u64) -> io::Result<()> {
+    print!(rt; "{n}")
 }
 
-fn say_digest(digest: &[u8; 32]) {
-    io::print_hex(STDOUT_FILENO, lists::number_at(digest, 0), 16);
-    io::print_hex(STDOUT_FILENO, lists::number_at(digest, 8), 16);
-    io::print_hex(STDOUT_FILENO, lists::number_at(digest, 16), 16);
-    io::print_hex(STDOUT_FILENO, lists::number_at(digest, 24), 16);
+fn say_digest(rt: &impl Print, digest: &[u8; 32]) -> io::Result<()> {
+    print!(rt; "{:016x}", lists::number_at(digest, 0))?;
+    print!(rt; "{:016x}", lists::number_at(digest, 8))?;
+    print!(rt; "{:016x}", lists::number_at(digest, 16))?;
+    print!(rt; "{:016x}", lists::number_at(digest, 24))
 }
 
-fn say_hashed(answer: Hashed) {
+fn say_hashed(rt: &impl Print, answer: Hashed) -> io::Result<()> {
     let digest = answer.digest;
-    say(b" ");
-    say_number(answer.number);
-    say(b" ");
-    say_digest(&digest);
+    say(rt, " ")?;
+    say_number(rt, answer.number)?;
+    say(rt, " ")?;
+    say_digest(rt, &digest)
 }
 
 // An empty piece is taken before each.
@@ -89,49 +89,53 @@ fn all_alike(message: &[u8], whole: Hashed) -> bool {
 }
 
 // What follows the message's name on its line.
-fn run(message: &[u8]) {
+fn run(rt: &impl Print, message: &[u8]) -> io::Result<()> {
     let whole = sha256::hash(message);
-    say_hashed(whole);
+    say_hashed(rt, whole)?;
     if all_alike(message, whole) {
-        say(b" cut alike\n");
+        say(rt, " cut alike\n")
     } else {
-        say(b" cut differs\n");
+        say(rt, " cut differs\n")
     }
 }
 
-fn run_repeated(n: usize, byte: u8)
+fn run_repeated(rt: &impl Print, n: usize, byte: u8) -> io::Result<()>
     requires { n ≤ 1005 }
 {
     let message = [byte; 1005];
-    say(b"nist ");
-    say_number(n as u64);
-    say(b" times ");
-    io::print_hex(STDOUT_FILENO, byte as u64, 2);
-    run(&message[0..n]);
+    say(rt, "nist ")?;
+    say_number(rt, n as u64)?;
+    say(rt, " times ")?;
+    print!(rt; "{byte:02x}")?;
+    run(rt, &message[0..n])
 }
 
 // The examples of FIPS 180-4 and NIST's further ones. Those of a million bytes and more are over the limit of 65,536 and left out.
-fn examples() {
-    say(b"fips empty");
-    run(b"");
-    say(b"fips abc");
-    run(b"abc");
-    say(b"fips 448 bits");
-    run(b"abcdbcdecdefdefgefghfghighijhijkijkljklmklmnlmnomnopnopq");
-    say(b"fips 896 bits");
+fn examples(rt: &impl Print) -> io::Result<()> {
+    say(rt, "fips empty")?;
+    run(rt, b"")?;
+    say(rt, "fips abc")?;
+    run(rt, b"abc")?;
+    say(rt, "fips 448 bits")?;
     run(
+        rt,
+        b"abcdbcdecdefdefgefghfghighijhijkijkljklmklmnlmnomnopnopq",
+    )?;
+    say(rt, "fips 896 bits")?;
+    run(
+        rt,
         b"abcdefghbcdefghicdefghijdefghijkefghijklfghijklmghijklmnhijklmnoijklmnopjklmnopqklmnopqrlmnopqrsmnopqrstnopqrstu",
-    );
-    run_repeated(1, 0xbd);
-    say(b"nist c98c8e55");
-    run(&[0xc9u8, 0x8c, 0x8e, 0x55]);
-    run_repeated(55, 0);
-    run_repeated(56, 0);
-    run_repeated(57, 0);
-    run_repeated(64, 0);
-    run_repeated(1000, 0);
-    run_repeated(1000, 0x41);
-    run_repeated(1005, 0x55);
+    )?;
+    run_repeated(rt, 1, 0xbd)?;
+    say(rt, "nist c98c8e55")?;
+    run(rt, &[0xc9u8, 0x8c, 0x8e, 0x55])?;
+    run_repeated(rt, 55, 0)?;
+    run_repeated(rt, 56, 0)?;
+    run_repeated(rt, 57, 0)?;
+    run_repeated(rt, 64, 0)?;
+    run_repeated(rt, 1000, 0)?;
+    run_repeated(rt, 1000, 0x41)?;
+    run_repeated(rt, 1005, 0x55)
 }
 
 // Byte i of a message of n bytes is 7 i + n modulo 251.
@@ -144,74 +148,73 @@ fn fill(message: &mut [u8]) {
     }
 }
 
-fn run_filled(message: &mut [u8]) {
+fn run_filled(rt: &impl Print, message: &mut [u8]) -> io::Result<()> {
     fill(message);
-    say(b"length ");
-    say_number(message.len() as u64);
-    run(message);
+    say(rt, "length ")?;
+    say_number(rt, message.len() as u64)?;
+    run(rt, message)
 }
 
-fn run_length(n: usize)
+fn run_length(rt: &impl Print, n: usize) -> io::Result<()>
     requires { n ≤ 65537 }
 {
     let mut message = [0u8; 65537];
-    run_filled(&mut message[0..n]);
+    run_filled(rt, &mut message[0..n])
 }
 
 // The edges of one padded block and of two are among the first 300; the last is refused.
-fn lengths() {
-    let mut n: usize = 0;
-    while n <= 300 {
-        run_length(n);
-        n += 1;
+fn lengths(rt: &impl Print) -> io::Result<()> {
+    for n in 0..=300 {
+        run_length(rt, n)?;
     }
-    run_length(65535);
-    run_length(65536);
-    run_length(65537);
+    run_length(rt, 65535)?;
+    run_length(rt, 65536)?;
+    run_length(rt, 65537)
 }
 
 // The number that taking a byte answers, and what finishing the state after that answers.
-fn run_state(state: HashState) {
+fn run_state(rt: &impl Print, state: HashState) -> io::Result<()> {
     let taken = state.take(b"a");
-    say(b" take ");
-    say_number(taken.number);
-    say(b" finish");
-    say_hashed(taken.state.finish());
-    say(b"\n");
+    say(rt, " take ")?;
+    say_number(rt, taken.number)?;
+    say(rt, " finish")?;
+    say_hashed(rt, taken.state.finish())?;
+    say(rt, "\n")
 }
 
-fn run_wrong_fill() {
+fn run_wrong_fill(rt: &impl Print) -> io::Result<()> {
     let mut state = HashState::begin();
     state.fill = 1;
-    say(b"state of fill 1 and total 0");
-    run_state(state);
+    say(rt, "state of fill 1 and total 0")?;
+    run_state(rt, state)
 }
 
-fn run_total_over() {
+fn run_total_over(rt: &impl Print) -> io::Result<()> {
     let mut state = HashState::begin();
     state.total = 65600;
-    say(b"state of total 65600");
-    run_state(state);
+    say(rt, "state of total 65600")?;
+    run_state(rt, state)
 }
 
-fn run_full() {
+fn run_full(rt: &impl Print) -> io::Result<()> {
     let mut message = [0u8; 65536];
     fill(&mut message);
     let full = HashState::begin().take(&message);
-    say(b"state of 65536 bytes");
-    run_state(full.state);
+    say(rt, "state of 65536 bytes")?;
+    run_state(rt, full.state)
 }
 
-fn states() {
-    say(b"state begun");
-    run_state(HashState::begin());
-    run_wrong_fill();
-    run_total_over();
-    run_full();
+fn states(rt: &impl Print) -> io::Result<()> {
+    say(rt, "state begun")?;
+    run_state(rt, HashState::begin())?;
+    run_wrong_fill(rt)?;
+    run_total_over(rt)?;
+    run_full(rt)
 }
 
-fn main() {
-    examples();
-    lengths();
-    states();
+// Fails only where a line can't be written.
+fn main(rt: HostRuntime) -> io::Result<()> {
+    examples(&rt)?;
+    lengths(&rt)?;
+    states(&rt)
 }
