@@ -6,23 +6,23 @@ ghost use Rattle.std.specs.Prelude.{◌≤◌};
 
 use audit::Audited;
 use hash::Digest;
-use libc::STDOUT_FILENO;
 use membership::Verdict;
 use path::{Length, Position};
+use std::io;
 use store::{Appended, Counted};
 
-fn say(text: &[u8]) {
-    io::write_all(STDOUT_FILENO, text);
+fn say(rt: &impl Print, text: &str) -> io::Result<()> {
+    print!(rt; "{text}")
 }
 
-fn say_number(n: u64) {
-    io::print_decimal(STDOUT_FILENO, n);
+fn say_number(rt: &impl Print, n: u64) -> io::Result<()> {
+    print!(rt; "{n}")
 }
 
 // Ends a line with a number.
-fn end_with(n: u64) {
-    say_number(n);
-    say(b"\n");
+fn end_with(rt: &impl Print, n: u64) -> io::Result<()> {
+    say_number(rt, n)?;
+    say(rt, "\n")
 }
 
 // The hops of the path from i to n, up to 64 of them.
@@ -40,16 +40,16 @@ fn hops(i: Position, n: Length) -> u64
 }
 
 // 01: "1 to 1,048,575: 38 hops, 39 components, 14,048 bytes, the longest." 02, A7: "at most 62 hops, the longest proof is 34,784 bytes".
-fn longest() {
+fn longest(rt: &impl Print) -> io::Result<()> {
     let i = Position(1);
     let n = Length(4_294_967_295);
     let k = hops(i, n);
-    say(b"1 to 4294967295: ");
-    say_number(k);
-    say(b" hops, ");
-    say_number(k + 1);
-    say(b" components, bytes ");
-    end_with(path::membership_len(i, n) as u64);
+    say(rt, "1 to 4294967295: ")?;
+    say_number(rt, k)?;
+    say(rt, " hops, ")?;
+    say_number(rt, k + 1)?;
+    say(rt, " components, bytes ")?;
+    end_with(rt, path::membership_len(i, n) as u64)
 }
 
 // 01's number for a verdict.
@@ -70,7 +70,7 @@ fn number_of(v: Verdict) -> u64 {
 }
 
 // 01: "Length 1,048,576: 4." 02, A7: 01's figures "move to the new ends".
-fn over_the_limit() {
+fn over_the_limit(rt: &impl Print) -> io::Result<()> {
     let v = membership::check_membership(
         b"",
         Position(1),
@@ -78,81 +78,82 @@ fn over_the_limit() {
         Digest { bytes: [0u8; 32] },
         b"",
     );
-    say(b"length 4294967296: ");
-    end_with(number_of(v));
+    say(rt, "length 4294967296: ")?;
+    end_with(rt, number_of(v))
 }
 
-fn say_audit(v: Audited) {
+fn say_audit(rt: &impl Print, v: Audited) -> io::Result<()> {
     match v {
         Audited::Sound(n) => {
-            say(b"sound ");
-            end_with(n.0);
+            say(rt, "sound ")?;
+            end_with(rt, n.0)
         }
         Audited::Wrong(j) => {
-            say(b"wrong ");
-            end_with(j.0);
+            say(rt, "wrong ")?;
+            end_with(rt, j.0)
         }
         Audited::Damaged => {
-            say(b"refused ");
-            end_with(1);
+            say(rt, "refused ")?;
+            end_with(rt, 1)
         }
     }
 }
 
 // The number of an append's answer, and the count now held.
-fn say_append(a: Appended) {
+fn say_append(rt: &impl Print, a: Appended) -> io::Result<()> {
     match a {
         Appended::Count(n) => {
-            say(b"0 with the count ");
-            end_with(n.0);
+            say(rt, "0 with the count ")?;
+            end_with(rt, n.0)
         }
-        Appended::Damaged => end_with(1),
-        Appended::TooLong => end_with(3),
-        Appended::Full => end_with(5),
+        Appended::Damaged => end_with(rt, 1),
+        Appended::TooLong => end_with(rt, 3),
+        Appended::Full => end_with(rt, 5),
     }
 }
 
 // "Store of 15 bytes: 1."
-fn fifteen() {
-    say(b"store of 15 bytes: ");
+fn fifteen(rt: &impl Print) -> io::Result<()> {
+    say(rt, "store of 15 bytes: ")?;
     match store::count(&[0u8; 15]) {
-        Counted::Count(n) => end_with(n.0),
-        Counted::Damaged => end_with(1),
+        Counted::Count(n) => end_with(rt, n.0),
+        Counted::Damaged => end_with(rt, 1),
     }
 }
 
 // A started store of so many bytes: its audit, and two appends.
-fn started(room: &mut [u8]) {
-    say(b"started store of ");
-    say_number(room.len() as u64);
-    say(b" bytes: ");
+fn started(rt: &impl Print, room: &mut [u8]) -> io::Result<()> {
+    say(rt, "started store of ")?;
+    say_number(rt, room.len() as u64)?;
+    say(rt, " bytes: ")?;
     store::start(room, 7);
-    say_audit(audit::audit(room));
-    say(b"  append: ");
-    say_append(store::append(room, b"lot", 65));
-    say(b"  append again: ");
-    say_append(store::append(room, b"lot", 65));
+    say_audit(rt, audit::audit(room))?;
+    say(rt, "  append: ")?;
+    say_append(rt, store::append(room, b"lot", 65))?;
+    say(rt, "  append again: ")?;
+    say_append(rt, store::append(room, b"lot", 65))
 }
 
 // "Entry of 4,096 goes in; 4,097 gives 3; 0 goes in."
-fn entries() {
+fn entries(rt: &impl Print) -> io::Result<()> {
     let mut room = [0u8; 211];
     store::start(&mut room, 7);
     let long = [97u8; 4097];
-    say(b"entry of 4096 bytes: ");
-    say_append(store::append(&mut room, &long[0..4096], 65));
-    say(b"entry of 4097 bytes: ");
-    say_append(store::append(&mut room, &long, 65));
-    say(b"entry of 0 bytes: ");
-    say_append(store::append(&mut room, b"", 65));
+    say(rt, "entry of 4096 bytes: ")?;
+    say_append(rt, store::append(&mut room, &long[0..4096], 65))?;
+    say(rt, "entry of 4097 bytes: ")?;
+    say_append(rt, store::append(&mut room, &long, 65))?;
+    say(rt, "entry of 0 bytes: ")?;
+    say_append(rt, store::append(&mut room, b"", 65))
 }
 
-fn main() {
-    longest();
-    over_the_limit();
-    fifteen();
-    started(&mut [0u8; 16]);
-    started(&mut [0u8; 80]);
-    started(&mut [0u8; 81]);
-    entries();
+// Fails only where a line can't be written.
+fn main(rt: HostRuntime) -> io::Result<()> {
+    longest(&rt)?;
+    over_the_limit(&rt)?;
+    fifteen(&rt)?;
+    started(&rt, &mut [0u8; 16])?;
+    started(&rt, &mut [0u8; 80])?;
+    started(&rt, &mut [0u8; 81])?;
+    entries(&rt)
 }

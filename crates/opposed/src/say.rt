@@ -1,23 +1,23 @@
 // What the program writes of a case.
 use clash::Clashed;
-use libc::STDOUT_FILENO;
 use lookup::Verdict;
+use std::io;
 
-pub(crate) fn text(t: &[u8]) {
-    io::write_all(STDOUT_FILENO, t);
+pub(crate) fn text(rt: &impl Print, t: &str) -> io::Result<()> {
+    print!(rt; "{t}")
 }
 
-pub(crate) fn number(before: &[u8], n: u64) {
-    text(before);
-    io::print_decimal(STDOUT_FILENO, n);
+pub(crate) fn number(rt: &impl Print, before: &str, n: u64) -> io::Result<()> {
+    text(rt, before)?;
+    print!(rt; "{n}")
 }
 
-pub(crate) fn verdict(v: Verdict) {
+pub(crate) fn verdict(rt: &impl Print, v: Verdict) -> io::Result<()> {
     match v {
-        Verdict::Accepted => text(b"accepted"),
-        Verdict::KeyTooLong => text(b"refused 3"),
-        Verdict::WrongLength => text(b"refused 16"),
-        Verdict::RootDiffers => text(b"refused 17"),
+        Verdict::Accepted => text(rt, "accepted"),
+        Verdict::KeyTooLong => text(rt, "refused 3"),
+        Verdict::WrongLength => text(rt, "refused 16"),
+        Verdict::RootDiffers => text(rt, "refused 17"),
     }
 }
 
@@ -26,31 +26,31 @@ fn wide(x: u8) -> u64 {
 }
 
 // The bytes of a message.
-fn bytes(m: &[u8]) {
-    text(b" ");
-    let mut i: usize = 0;
-    while i < m.len() {
-        io::print_hex(STDOUT_FILENO, wide(m[i]), 2);
-        i += 1;
+fn bytes(rt: &impl Print, m: &[u8]) -> io::Result<()> {
+    text(rt, " ")?;
+    for byte in m {
+        print!(rt; "{:02x}", wide(*byte))?;
     }
+    Ok(())
 }
 
 // The messages that were formed.
-pub(crate) fn clashed(c: Clashed, one: &[u8], other: &[u8]) {
+pub(crate) fn clashed(rt: &impl Print, c: Clashed, one: &[u8], other: &[u8]) -> io::Result<()> {
     match c {
         Clashed::Two { first, second } => {
-            number(b"two messages of ", first as u64);
-            number(b" and ", second as u64);
-            bytes(one);
-            bytes(other);
+            number(rt, "two messages of ", first as u64)?;
+            number(rt, " and ", second as u64)?;
+            bytes(rt, one)?;
+            bytes(rt, other)
         }
         Clashed::Zero { size } => {
-            number(b"one message of ", size as u64);
+            number(rt, "one message of ", size as u64)?;
             if size <= one.len() {
-                bytes(&one[0..size]);
+                bytes(rt, &one[0..size])?;
             }
+            Ok(())
         }
-        Clashed::BufferShort => text(b"denied 6"),
-        Clashed::NotAccepted { which } => number(b"denied 13 ", which),
+        Clashed::BufferShort => text(rt, "denied 6"),
+        Clashed::NotAccepted { which } => number(rt, "denied 13 ", which),
     }
 }
