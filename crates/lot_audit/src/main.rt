@@ -2,35 +2,52 @@
 // `refused 1`, or `too long` for more than 65,536 bytes. A failed read counts as the end of input.
 #![tactic(auto)]
 
-use audit::Audited;
-use libc::STDOUT_FILENO;
+ghost use Rattle.std.specs.Prelude.{◌≡◌, ◌≤◌, length, take};
 
-fn line(word: &[u8], n: u64) {
-    io::write_all(STDOUT_FILENO, word);
-    io::print_decimal(STDOUT_FILENO, n);
-    io::write_all(STDOUT_FILENO, b"\n");
+use audit::Audited;
+use std::io;
+use std::io::Read;
+
+fn line(rt: &impl Print, word: &str, n: u64) -> io::Result<()> {
+    println!(rt; "{word}{n}")
 }
 
-fn report(verdict: Audited) {
+fn report(rt: &impl Print, verdict: Audited) -> io::Result<()> {
     match verdict {
-        Audited::Sound(n) => line(b"sound ", n.0),
-        Audited::Wrong(j) => line(b"wrong ", j.0),
-        Audited::Damaged => line(b"refused ", 1),
+        Audited::Sound(n) => line(rt, "sound ", n.0),
+        Audited::Wrong(j) => line(rt, "wrong ", j.0),
+        Audited::Damaged => line(rt, "refused ", 1),
     }
+}
+
+// Reads until buf is full, the input ends or a read fails, and answers how many bytes it put at the start of buf.
+fn read_full(input: &mut impl Read, buf: &mut [u8]) -> usize
+    ensures in_bounds { result ≤ length buf.new }
+    ensures prefix { result ≡ length (take result buf.new) }
+{
+    let mut done: usize = 0;
+    while done < buf.len() {
+        match input.read(&mut buf[done..]) {
+            Ok(0) | Err(_) => break,
+            Ok(n) => done += n,
+        }
+    }
+    done
 }
 
 // Whether a further byte can be read.
-fn is_more() -> bool {
+fn is_more(input: &mut impl Read) -> bool {
     let mut more = [0u8; 1];
-    io::read_full(0, &mut more) > 0
+    read_full(input, &mut more) > 0
 }
 
-fn main() {
-    let mut buffer = io::large_buffer();
-    let n = io::read_full(0, &mut buffer);
-    if n == 65536 && is_more() {
-        io::write_all(STDOUT_FILENO, b"too long\n");
-        return;
+// Fails only where the line can't be written.
+fn main(rt: HostRuntime) -> io::Result<()> {
+    let mut buffer = [0u8; 65536];
+    let mut input = rt.reader();
+    let n = read_full(&mut input, &mut buffer);
+    if n == 65536 && is_more(&mut input) {
+        return println!(rt; "too long");
     }
-    report(audit::audit(&buffer[..n]));
+    report(&rt, audit::audit(&buffer[..n]))
 }
