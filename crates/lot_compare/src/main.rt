@@ -3,10 +3,12 @@
 // the rule's, `compare_line::line`; that the bytes read are the files' no contract can say.
 #![tactic(auto)]
 
-ghost use Rattle.std.specs.Prelude.{◌≡◌, length};
-ghost use Rattle.io.specs.Counts.{IsPrefixLen};
+ghost use Rattle.std.specs.Prelude.{◌≡◌, ◌≤◌, length, take};
 
-use libc::STDOUT_FILENO;
+use std::env::{Env, FillError};
+use std::fs::Files;
+use std::io::Read;
+use std::{fs, io, str};
 
 // What reading a file comes to: whether each read was good, and the bytes that came. None count where a read failed.
 #[derive(Clone, Copy)]
@@ -22,37 +24,46 @@ fn space() -> [u8; 32769]
     [0; 32769]
 }
 
-// Opens the file that argument i names. Negative if there are not two names, the name is longer than a path, or the file can't be opened.
-fn open_named(i: usize) -> i32 {
-    if os::arg_count() != 3 {
-        return -1;
+// Whether there are two names: argument 0 is the program's own.
+fn has_two_names(rt: &impl Env) -> bool {
+    let mut name = [0u8; 4096];
+    let is_second_there = !matches!(rt.arg(2, &mut name), Err(FillError::NotPresent));
+    is_second_there && matches!(rt.arg(3, &mut name), Err(FillError::NotPresent))
+}
+
+// Opens the file that argument i names. None if there are not two names, the name is longer than a path or no UTF-8, or the file can't be opened.
+fn open_named<R: Env + Files>(rt: &R, i: usize) -> Option<R::File> {
+    if !has_two_names(rt) {
+        return None;
     }
-    let mut name = io::buffer();
-    let n = os::arg(i, &mut name);
-    if os::errno() != 0 {
-        return -1;
-    }
-    os::open_read(&name[..n])
+    let mut name = [0u8; 4096];
+    let n = rt.arg(i, &mut name).ok()?;
+    let path = str::from_utf8(&name[..n]).ok()?;
+    fs::open(rt, path).ok()
 }
 
 // Reads once. With no bytes and a good read, the file has ended.
-fn read_some(fd: i32, part: &mut [u8]) -> Taken
-    ensures { IsPrefixLen result.size part.new }
+fn read_some(file: &mut impl Read, part: &mut [u8]) -> Taken
+    ensures in_bounds { result.size ≤ length part.new }
+    ensures prefix { result.size ≡ length (take result.size part.new) }
 {
-    let got = libc::read(fd, part);
-    Taken {
-        good: got >= 0,
-        size: io::count(got, part),
+    match file.read(part) {
+        Ok(size) => Taken { good: true, size },
+        Err(_) => Taken {
+            good: false,
+            size: 0,
+        },
     }
 }
 
 // Reads to the start of buf until the file ends, a read fails or buf is full. A pipe may give its bytes in pieces, and a device may never end.
-fn read_all(fd: i32, buf: &mut [u8]) -> Taken
-    ensures { IsPrefixLen result.size buf.new }
+fn read_all(file: &mut impl Read, buf: &mut [u8]) -> Taken
+    ensures in_bounds { result.size ≤ length buf.new }
+    ensures prefix { result.size ≡ length (take result.size buf.new) }
 {
     let mut done: usize = 0;
     while done < buf.len() {
-        let taken = read_some(fd, &mut buf[done..]);
+        let taken = read_some(file, &mut buf[done..]);
         if !taken.good {
             return taken;
         }
@@ -68,29 +79,28 @@ fn read_all(fd: i32, buf: &mut [u8]) -> Taken
 }
 
 // Reads the file that argument i names.
-fn read_file(i: usize, buf: &mut [u8]) -> Taken
-    ensures { IsPrefixLen result.size buf.new }
+fn read_file(rt: &(impl Env + Files), i: usize, buf: &mut [u8]) -> Taken
+    ensures in_bounds { result.size ≤ length buf.new }
+    ensures prefix { result.size ≡ length (take result.size buf.new) }
 {
-    let fd = open_named(i);
-    if fd < 0 {
-        return Taken {
+    match open_named(rt, i) {
+        Some(mut file) => read_all(&mut file, buf),
+        None => Taken {
             good: false,
             size: 0,
-        };
+        },
     }
-    let taken = read_all(fd, buf);
-    libc::close(fd);
-    taken
 }
 
-fn main() {
+// Fails only where the line can't be written.
+fn main(rt: HostRuntime) -> io::Result<()> {
     let mut first = space();
     let mut second = space();
-    let one = read_file(1, &mut first);
-    let two = read_file(2, &mut second);
+    let one = read_file(&rt, 1, &mut first);
+    let two = read_file(&rt, 2, &mut second);
     let n = one.size;
     let m = two.size;
     let mut out = [0u8; 49];
     let k = compare_line::line(one.good && two.good, &first[..n], &second[..m], &mut out);
-    io::write_all(STDOUT_FILENO, &out[..k]);
+    rt.write_all(&out[..k])
 }
