@@ -24,14 +24,18 @@ fn space() -> [u8; 32769]
     [0; 32769]
 }
 
-// Whether there are two names: argument 0 is the program's own.
-fn has_two_names(rt: &impl Env) -> bool {
-    let mut name = [0u8; 4096];
-    let is_second_there = !matches!(rt.arg(2, &mut name), Err(FillError::NotPresent));
-    is_second_there && matches!(rt.arg(3, &mut name), Err(FillError::NotPresent))
+// Whether there is an argument i. One that is longer than the buffer is there too.
+fn has_arg(rt: &impl Env, i: usize) -> bool {
+    let mut start = [0u8; 1];
+    !matches!(rt.arg(i, &mut start), Err(FillError::NotPresent))
 }
 
-// Opens the file that argument i names. None if there are not two names, the name is longer than a path or no UTF-8, or the file can't be opened.
+// Whether there are two names and no third. Argument 0 is the program's own.
+fn has_two_names(rt: &impl Env) -> bool {
+    has_arg(rt, 2) && !has_arg(rt, 3)
+}
+
+// Opens the file that argument i names. None if there are not two names, the name is longer than a path or is not UTF-8, or the file can't be opened.
 fn open_named<R: Env + Files>(rt: &R, i: usize) -> Option<R::File> {
     if !has_two_names(rt) {
         return None;
