@@ -1,6 +1,7 @@
 // Compares the stores in the two files that its arguments name and writes one line: `equal`, `first shorter`, `second shorter`, `differ N B` with the element
-// and its byte from 0, `refused N`, or `unread` where there are not two names, a file can't be read or has more than 32,768 bytes. The line is proved to be
-// the rule's, `compare_line::line`; that the bytes read are the files' no contract can say.
+// and its byte from 0, `refused N`, or `unread` where there are not two names, a file can't be read or has more than 32,768 bytes. A name that is not UTF-8 is
+// one of a file that can't be read: std opens no other. The line is proved to be the rule's, `compare_line::line`; that the bytes read are the files' no
+// contract can say.
 #![tactic(auto)]
 
 ghost use Rattle.std.specs.Prelude.{◌≡◌, ◌≤◌, length, take};
