@@ -3,4 +3,5 @@ pub mod Comparing  -- the first difference of two stores, or which is the start 
 pub mod Refusals  -- the new refusal, by name
 pub mod Calls  -- the whole outcome of the call
 pub mod Line  -- what the program writes
+
 -- what follows from them stands in proofs/

@@ -8,11 +8,11 @@ use Prim.Native.Nat.{ℕ, zero, suc, ◌+◌, ◌*◌, ◌/◌, ◌%◌, ◌^◌
 use Rattle.std.proofs.lemmas.List.{replicate-append-replicate}
 use borrow.Author.Tests.{le-leb}
 use Rattle.lists.specs.Bytes.{Bytes, be, same, zeros}
-use Rattle.rules.specs.Numbers.{Version, limit}
+use Rattle.rules.specs.Numbers.{Version, limit, wider}
 use Rattle.rules.specs.Refusals.{done, state_broken}
-use Rattle.rules.specs.Held.{Held, odd, held_zeros, is_in_order}
+use Rattle.rules.specs.Held.{Held, odd, held_zeros, is_in_order, widened}
 use Rattle.rules.specs.Calls.{HeldFound, held_found}
-use Rattle.rules.proofs.Wider.{wider, widened, limit_wider, order_wider}
+use Rattle.rules.proofs.Wider.{limit_wider, order_wider}
 use Rattle.file_form.specs.Form.{hld, head_size, head, in_use, file_of, file_size, mark_in, version_in, count_in, rows_in, state_in}
 use Rattle.file_form.specs.Refusals.{file_short, mark_wrong, version_wrong, length_wrong}
 use Rattle.file_form.specs.Calls.{write_call, read_call}

@@ -10,23 +10,15 @@ use Rattle.std.proofs.Math.Dec.{leb}
 use Rattle.std.proofs.Math.ListN.{length, replicate}
 use Rattle.std.proofs.lemmas.List.{take-append-le, drop-append-le}
 use Rattle.lists.specs.Bytes.{Bytes, same, zeros}
-use Rattle.rules.specs.Numbers.{Version, v1, limit}
+use Rattle.rules.specs.Numbers.{Version, v1, limit, wider}
 use Rattle.rules.specs.Paths.{hops, path, path_after}
 use Rattle.rules.specs.Messages.{start_msg, size, total, row, part}
 use Rattle.rules.specs.Refusals.{state_broken, no_such_number, wrong_length, row_differs, link_differs, digest_differs}
-use Rattle.rules.specs.Held.{Held, odd, free_zero, is_in_order}
+use Rattle.rules.specs.Held.{Held, odd, free_zero, is_in_order, widened}
 use Rattle.rules.specs.Checking.{Verdict, accepted, refused, place, must_at, must, digest_at, walk, member, agrees, off_row, carried, rows_after, hopped, advance_walk, advance}
 use Rattle.rules.proofs.Hops.{end, end_le, hops_ride, level_below}
 use Rattle.rules.proofs.Parity.{Odd, Even, parity}
 use Rattle.rules.proofs.Carrying.{rows_after_length}
-
--- a version with k levels more
-abbrev pub wider : ℕ → Version → Version
-wider k v = record { number = v.number; levels = v.levels + k; before = v.before }
-
--- a state with k further rows, which are free
-abbrev pub widened : ℕ → Held → Held
-widened k h = record { log = h.log; count = h.count; digest = h.digest; rows = h.rows ++ replicate k zeros }
 
 -- Its limit is no lower.
 pub limit_wider : (k : ℕ) (v : Version) → limit v ≤ limit (wider k v)

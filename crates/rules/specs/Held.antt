@@ -1,5 +1,5 @@
 -- 01, "What a practice holds": the state, the state that digests give at n, and the states that are refused with 2.
-use Rattle.std.specs.Prelude.{◌≡◌, Bool, true, cond, ◌&&◌, ◌||◌, List, [], ◌∷◌, ℕ, zero, suc, ◌*◌, ◌/◌, ◌%◌, ◌^◌, ◌<◌, leb, eqb, length, get_or, replicate}
+use Rattle.std.specs.Prelude.{◌≡◌, Bool, true, cond, ◌&&◌, ◌||◌, List, [], ◌∷◌, ◌++◌, ℕ, zero, suc, ◌*◌, ◌/◌, ◌%◌, ◌^◌, ◌<◌, leb, eqb, length, get_or, replicate}
 use Rattle.lists.specs.Bytes.{Bytes, same, zeros}
 use Rattle.rules.specs.Numbers.{Version, limit}
 use Rattle.rules.specs.Messages.{start_msg}
@@ -58,3 +58,7 @@ is_in_order H v h =
     leb h.count (limit v)
     && (free_zero h.count h.rows
     && (leb 1 h.count || same h.digest (H (start_msg v h.log))))
+
+-- a state with k further rows, which are free
+abbrev pub widened : ℕ → Held → Held
+widened k h = record { log = h.log; count = h.count; digest = h.digest; rows = h.rows ++ replicate k zeros }

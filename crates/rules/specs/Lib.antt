@@ -8,4 +8,5 @@ pub mod Checking  -- membership and advancement
 pub mod Dispute  -- the two messages, the differing part
 pub mod Refusals  -- the numbers, by name
 pub mod Calls  -- the whole outcome of each public call
+
 -- what follows from them stands in proofs/
