@@ -1,10 +1,10 @@
 -- "A FILE FROM A4 STILL READS, SINCE IT HOLDS USED ROWS ONLY" (02, A7), for any hash and for versions that differ in their levels alone: every file whose count is
 -- at most the lower limit reads or is refused as it was, and gives the same state, further rows free; and every state up to that limit has the file that it had.
-use Rattle.std.specs.Prelude.{◌≡◌, Bool, List, [], ◌∷◌, ◌++◌, ltb, eqb, length, take, drop, replicate}
+use Rattle.std.specs.Prelude.{◌≡◌, Bool, List, [], ◌∷◌, ◌++◌, ltb, eqb, length, drop, replicate}
 use Rattle.std.proofs.Math.Path.{refl}
-use Rattle.std.proofs.Common.{sym, ap, ◌∙◌, zero-add, le_trans, arith}
+use Rattle.std.proofs.Common.{sym, ap, ◌∙◌, le_trans, arith}
 use Rattle.std.proofs.Math.Bool.{true, false, cond}
-use Prim.Native.Nat.{ℕ, zero, suc, ◌+◌, ◌*◌, ◌/◌, ◌%◌, ◌^◌, ◌≤◌, ◌<◌}
+use Prim.Native.Nat.{ℕ, zero, suc, ◌+◌, ◌/◌, ◌^◌, ◌≤◌, ◌<◌}
 use Rattle.std.proofs.lemmas.List.{replicate-append-replicate}
 use borrow.Author.Tests.{le-leb}
 use Rattle.lists.specs.Bytes.{Bytes, be, same, zeros}
@@ -13,27 +13,15 @@ use Rattle.rules.specs.Refusals.{done, state_broken}
 use Rattle.rules.specs.Held.{Held, odd, held_zeros, is_in_order, widened}
 use Rattle.rules.specs.Calls.{HeldFound, held_found}
 use Rattle.rules.proofs.Wider.{limit_wider, order_wider}
-use Rattle.file_form.specs.Form.{hld, head_size, head, in_use, file_of, file_size, mark_in, version_in, count_in, rows_in, state_in}
+use Rattle.file_form.specs.Form.{hld, head_size, head, in_use, file_of, file_size, mark_in, version_in, count_in, state_in}
 use Rattle.file_form.specs.Refusals.{file_short, mark_wrong, version_wrong, length_wrong}
 use Rattle.file_form.specs.Calls.{write_call, read_call}
 use Rattle.file_form.proofs.Rows.{half_left}
+use Rattle.file_form.proofs.Longer.{rows_wider}
 use Rattle.file_form.proofs.Answers.{reads}
 use Rattle.file_form.proofs.Back.{few_bits}
 
 -- ---- the rows of a file
-
--- no row is in use above the bits of the count
-none_in : (k : ℕ) (b : Bytes) → rows_in k 0 b ≡ replicate k zeros
-unfolding rows_in
-none_in zero b = refl
-none_in (suc k) b = ap (λ (rs : List Bytes). zeros ∷ rs) (none_in k b)
-
-rows_wider : (m k q : ℕ) (b : Bytes) → q < 2 ^ m → rows_in (m + k) q b ≡ rows_in m q b ++ replicate k zeros
-unfolding rows_in
-rows_wider zero k q b h = let e : q ≡ 0 = omega arith in rw (e, zero-add) (none_in k b)
-rows_wider (suc m) k q b h =
-    let e : suc m + k ≡ suc (m + k) = omega arith in
-    rw (e, rows_in) (ap (λ (rs : List Bytes). cond (odd q) (take 32 b) zeros ∷ rs) (rows_wider m k (q / 2) (drop (32 * (q % 2)) b) (half_left q m h)))
 
 -- THE STATE THAT STANDS IN A FILE IS THE ONE THAT STOOD IN IT, further rows free.
 pub state_wider : (k : ℕ) (v : Version) (f : Bytes) → count_in f ≤ limit v → state_in (wider k v) f ≡ widened k (state_in v f)
