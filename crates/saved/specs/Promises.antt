@@ -7,12 +7,12 @@ use Rattle.lists.specs.Bytes.{Bytes, AreBytes}
 use Rattle.hash.specs.Hash.{hash_of}
 use Rattle.rules.specs.Numbers.{v1}
 use Rattle.rules.specs.Refusals.{done}
-use Rattle.rules.specs.Held.{Sized, is_in_order}
+use Rattle.rules.specs.Held.{Sized, is_in_order, widened}
 use Rattle.rules.specs.Held as rules
 use Rattle.rules.specs.Calls.{HeldFound, held_found, written, gives, over, advance_call}
 use Rattle.rules.specs.Calls as calls
 use Rattle.rules.proofs.OneOutcome.{One, one_outcome}
-use Rattle.rules.proofs.Wider.{widened, twenty}
+use Rattle.rules.proofs.Wider.{twenty}
 use Rattle.held.specs.declared.Held.{Held}
 use Rattle.held.specs.Holding.{holds, held_one}
 use Rattle.file_form.specs.Form.{file_of, file_size}
