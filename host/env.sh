@@ -2,14 +2,17 @@
 #
 # The proved library is for x86-64 Linux. On another processor the programs that link it are built for
 # x86-64 all the same, and run under an emulator. Everything is compiled for release and for the common
-# x86-64 processor without extensions, which is what `rt staticlib` compiles for.
+# x86-64 processor without extensions; but the proved programs, which `rt ci` compiles, want an x86-64-v2 (of
+# 2009 or newer), and end with 127 on an older one.
 
-# Products go here. `rt ci` removes target/, so nothing that is still wanted lies there.
+# Products go here. `rt ci` reads no .rt or .antt file here, and refuses one: copies of crates lie elsewhere.
 build=build
 
-# The crate whose calls the host programs link, its archive, and the programs that are tested from here.
+# The crate whose calls the host programs link, its archive, what that is made from, and the programs that are tested
+# from here.
 library=lotlog
 archive=$build/lib$library.a
+proved_from=(crates.txt crates/*/src crates/*/specs crates/*/proofs)
 programs=(lot_audit lot_compare)
 
 # Flags of the Rust compiler, `cc` for C, and `tools` before the names of those that read and change archives.
@@ -41,6 +44,35 @@ run() { "${emulator[@]}" "$@"; }
 # Whether a product is there and newer than every file below the paths given.
 is_fresh() { # PRODUCT PATH..
     [ -e "$1" ] && [ -z "$(find "${@:2}" -newer "$1" -print -quit)" ]
+}
+
+# Makes a folder that is gone when the shell ends, outside the repository.
+make_room() { # sets `room`
+    room=$(mktemp -d "${TMPDIR:-/tmp}/lotlog-room.XXXXXX")
+    # shellcheck disable=SC2064
+    trap "rm -rf '$room'" EXIT
+}
+
+# Proves the crates that scripts/room copies, and writes the library's archive. `rt lib` in crates/lotlog makes such an archive
+# too, out/liblotlog.a, but would prove each crate below once more: it takes nothing of what `rt ci` has proved.
+proved_library() { # ARCHIVE WORD..: sets `room` to where the crates lie
+    local kit crate words=()
+    make_room
+    scripts/room "$room/crates" "${@:2}"
+    room=$room/crates
+    (cd "$room" && rt ci)
+    kit=$(dirname "$(rt doc)")
+    for crate in $(sed -n "s/^$library staticlib://p" "$room/crates.txt"); do
+        words+=(--extern "$crate=$room/crates/$crate/out/rlib/$crate.rlib")
+    done
+    for crate in "$room"/crates/*/out/rlib; do words+=(-L "dependency=$crate"); done
+    (cd "$room/crates/$library" && "$kit/bin/rattle" build src/lib.rt --crate-name "$library" --crate-type staticlib \
+        --target x86_64-unknown-linux-gnu --cpu x86-64 --links "$library=" --jobs "$(nproc)" \
+        --extern "std=$kit/rlibs/std.rlib" -L "dependency=$kit/rlibs" "${words[@]}" \
+        --antt-project "$kit/rattle/logic/antt-project.json" --logic-built "$kit/logic_built" \
+        --toolchain "$kit/toolchain" -o "$room/archive")
+    mkdir -p "$build"
+    cp "$room/archive" "$1"
 }
 
 # Sets `externs` to the words that let a crate use others.
