@@ -1,7 +1,7 @@
 /*
  * lotlog.h: the calls of the proved lot log, for C and for every language that calls C.
  *
- * Link the archive that `rt staticlib lotlog` writes; README has the line. It is for x86-64 Linux and
+ * Link the archive that `host/run library` writes; README has the line. It is for x86-64 Linux and
  * needs at most memcpy, memmove and memset, from the C library or of your own, and nothing else. No
  * call allocates, keeps a pointer or touches anything but what it is lent.
  *
