@@ -53,7 +53,7 @@ use Rattle.sealed.specs.Told.{left_told, checked_told}
 use Rattle.sealed.specs.Promises as sealed
 use Rattle.copies.specs.Calls.{compare_call}
 use Rattle.compare.specs.Told.{compared_told}
-use Rattle.compare.specs.Promises as compare
+use Rattle.compare.proofs.Promises as compare
 use Rattle.lotlog.specs.Exports.{telling, one_told, leaving, one_left, writing, one_wrote, showing, one_showed}
 use Rattle.lotlog.specs.Outcomes.{lot_hash, lot_start, lot_count, lot_append, lot_digest_at, lot_audit, lot_held_start, lot_held_at, lot_held_write, lot_held_read, lot_build_membership, lot_build_advancement, lot_check_membership, lot_check_advancement, lot_dispute, lot_differing}
 use Rattle.lotlog.specs.Recalls.{lot_handle, lot_trie_root, lot_prove_presence, lot_prove_absence, lot_check_presence, lot_check_absence, lot_trie_clash}

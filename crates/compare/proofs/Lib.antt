@@ -1,0 +1,1 @@
+pub mod Promises  -- what the contract comes to
