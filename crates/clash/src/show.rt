@@ -50,10 +50,12 @@ pub fn clash(
 ) -> Clashed
     ensures { formed (clash_told result) out1.new out2.new ≡ clash_call hash_of key.now root.bytes presence.now absence.now out1.old out2.old }
 {
-    if out1.len() < ROOM {
+    let one_short = out1.len() < ROOM;
+    if one_short {
         return Clashed::BufferShort;
     }
-    if out2.len() < ROOM {
+    let two_short = out2.len() < ROOM;
+    if two_short {
         return Clashed::BufferShort;
     }
     let one = check_presence(key, root, presence);

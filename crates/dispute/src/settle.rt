@@ -59,10 +59,12 @@ pub fn dispute(
 ) -> Answer
     ensures { outcome result out1.new out2.new ≡ dispute_call hash_of v1 entry1.now proof1.now entry2.now proof2.now i.0 n.0 digest.bytes out1.old out2.old }
 {
-    if out1.len() < ROOM {
+    let one_short = out1.len() < ROOM;
+    if one_short {
         return Answer::BufferShort;
     }
-    if out2.len() < ROOM {
+    let two_short = out2.len() < ROOM;
+    if two_short {
         return Answer::BufferShort;
     }
     let one = membership::check_membership(entry1, i, n, digest, proof1);

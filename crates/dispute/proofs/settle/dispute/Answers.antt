@@ -20,35 +20,35 @@ second c t e =
     let a = c.args in
     heard a.entry2.now a.i.0 a.n.0 a.digest.bytes a.proof2.now c.check_membership-two.result _ t c.check_membership-two.ensures c.is_accepted-2.ensures e
 
-pub returns-then-out1-lt-ROOM : goal.returns-then-out1-lt-ROOM
-returns-then-out1-lt-ROOM c =
+pub returns-then-one_short : goal.returns-then-one_short
+returns-then-one_short c =
     let a = c.args in
-    first_short a.entry1.now a.proof1.now a.entry2.now a.proof2.now a.i.0 a.n.0 a.digest.bytes a.out1.now a.out2.now c.if-out1-lt-ROOM.true
+    first_short a.entry1.now a.proof1.now a.entry2.now a.proof2.now a.i.0 a.n.0 a.digest.bytes a.out1.now a.out2.now c.if-one_short.true
 
-pub returns-then-out2-lt-ROOM : goal.returns-then-out2-lt-ROOM
-returns-then-out2-lt-ROOM c =
+pub returns-then-two_short : goal.returns-then-two_short
+returns-then-two_short c =
     let a = c.args in
-    second_short a.entry1.now a.proof1.now a.entry2.now a.proof2.now a.i.0 a.n.0 a.digest.bytes a.out1.now a.out2.now c.if-out1-lt-ROOM.false c.if-out2-lt-ROOM.true
+    second_short a.entry1.now a.proof1.now a.entry2.now a.proof2.now a.i.0 a.n.0 a.digest.bytes a.out1.now a.out2.now c.if-one_short.false c.if-two_short.true
 
 pub returns-then-not-is_accepted : goal.returns-then-not-is_accepted
 returns-then-not-is_accepted c =
     let a = c.args in
-    first_refused a.entry1.now a.proof1.now a.entry2.now a.proof2.now a.i.0 a.n.0 a.digest.bytes a.out1.now a.out2.now c.if-out1-lt-ROOM.false c.if-out2-lt-ROOM.false (first (goal.at.returns-then-not-is_accepted c).After-is_accepted false (c.if-not-is_accepted.true))
+    first_refused a.entry1.now a.proof1.now a.entry2.now a.proof2.now a.i.0 a.n.0 a.digest.bytes a.out1.now a.out2.now c.if-one_short.false c.if-two_short.false (first (goal.at.returns-then-not-is_accepted c).After-is_accepted false (c.if-not-is_accepted.true))
 
 pub returns-then-not-is_accepted-2 : goal.returns-then-not-is_accepted-2
 returns-then-not-is_accepted-2 c =
     let a = c.args in
-    second_refused a.entry1.now a.proof1.now a.entry2.now a.proof2.now a.i.0 a.n.0 a.digest.bytes a.out1.now a.out2.now c.if-out1-lt-ROOM.false c.if-out2-lt-ROOM.false
+    second_refused a.entry1.now a.proof1.now a.entry2.now a.proof2.now a.i.0 a.n.0 a.digest.bytes a.out1.now a.out2.now c.if-one_short.false c.if-two_short.false
     (first (goal.at.returns-then-not-is_accepted-2 c).After-is_accepted true (c.if-not-is_accepted.false)) (second (goal.at.returns-then-not-is_accepted-2 c).After-is_accepted-2 false (c.if-not-is_accepted-2.true))
 
 pub settle-requires : goal.settle-requires
 settle-requires c =
     let a = c.args in
-    ready a.entry1.now a.proof1.now a.entry2.now a.proof2.now a.i.0 a.n.0 a.digest.bytes a.out1.now a.out2.now c.if-out1-lt-ROOM.false c.if-out2-lt-ROOM.false
+    ready a.entry1.now a.proof1.now a.entry2.now a.proof2.now a.i.0 a.n.0 a.digest.bytes a.out1.now a.out2.now c.if-one_short.false c.if-two_short.false
     (first (goal.at.settle-requires c).After-is_accepted true (c.if-not-is_accepted.false)) (second (goal.at.settle-requires c).After-is_accepted-2 true (c.if-not-is_accepted-2.false))
 
 pub returns : goal.returns
 returns c =
     let a = c.args in
-    settled_as a.entry1.now a.proof1.now a.entry2.now a.proof2.now a.i.0 a.n.0 a.digest.bytes a.out1.now a.out2.now c.if-out1-lt-ROOM.false c.if-out2-lt-ROOM.false
+    settled_as a.entry1.now a.proof1.now a.entry2.now a.proof2.now a.i.0 a.n.0 a.digest.bytes a.out1.now a.out2.now c.if-one_short.false c.if-two_short.false
     (first (goal.at.returns c).After-is_accepted true (c.if-not-is_accepted.false)) (second (goal.at.returns c).After-is_accepted-2 true (c.if-not-is_accepted-2.false)) _ _ _ c.settle.ensures
