@@ -2,7 +2,7 @@
 use mathlib.Core.Path.{◌≡◌, refl, sym, ap, ap₂, ◌∙◌}
 use mathlib.Core.Bool.{Bool, true, false, cond}
 use mathlib.Core.List.{List}
-use Prim.Native.Nat.{ℕ, suc, ◌+◌, ◌-◌, ◌/◌, ◌^◌, ◌≤◌, ◌<◌}
+use Prim.Native.Nat.{ℕ, suc, ◌+◌, ◌/◌, ◌^◌, ◌≤◌, ◌<◌}
 use native.Mathlib.Nat.{zero-add}
 use native.Mathlib.Numerals.{add-one}
 use native.Mathlib.Omega.{arith}
@@ -20,8 +20,7 @@ use Rattle.rules.specs.Calls.{advance_answer}
 use Rattle.rules.proofs.Hops.{level_hop, level_below, hops_step}
 use Rattle.rules.proofs.Bounds.{total_first, total_after_step}
 use Rattle.rules.proofs.Walking.{advance_walk_end}
-use Rattle.held.specs.declared.Rows.{Rows}
-use Rattle.held.specs.declared.Rows.TheVariants.{Agree, Differ}
+use Rattle.std.specs.Prelude.{Option, None, Some}
 use Rattle.held.specs.Rows.{rows_say}
 use Rattle.advancement.specs.declared.Hop.{Hop}
 use Rattle.advancement.specs.declared.Hop.TheVariants.{Good, Row, Link}
@@ -74,7 +73,7 @@ next_hop n p D h o k b =
     off = off_row v1 l (drop l h.rows) x
 
     go : (b t : Bool) → must_at (place (toward h n) off) b row_differs k (must_at (place (toward h n) l) t link_differs k (rest (hopped hash_of v1 h l p o)))
-        ≡ judged (hop_by h l x (cond b Agree (Differ off)) t).verdict k (rest (hop_by h l x (cond b Agree (Differ off)) t).state)
+        ≡ judged (hop_by h l x (cond b None (Some off)) t).verdict k (rest (hop_by h l x (cond b None (Some off)) t).state)
     go true true = refl
     go true false = refl
     go false t = refl
@@ -84,10 +83,10 @@ good_count : (h : Held) (l : ℕ) (x : Bytes) → (hop_of h l x).verdict ≡ Goo
 unfolding hop_of
 good_count h l x = go (rows_say l (h.count / 2 ^ l) (drop l h.rows) x) (same (row v1 x (suc l)) h.digest)
   where
-    go : (r : Rows) (t : Bool) → (hop_by h l x r t).verdict ≡ Good → (hop_by h l x r t).state.count ≡ h.count + 2 ^ l
-    go Agree true e = refl
-    go Agree false e = absurd (let z : ◌≡◌ {A = ℕ} 0 1 = cc in omega arith)
-    go (Differ c) t e = absurd (let z : ◌≡◌ {A = ℕ} 0 1 = cc in omega arith)
+    go : (r : Option ℕ) (t : Bool) → (hop_by h l x r t).verdict ≡ Good → (hop_by h l x r t).state.count ≡ h.count + 2 ^ l
+    go None true e = refl
+    go None false e = absurd (let z : ◌≡◌ {A = ℕ} 0 1 = cc in omega arith)
+    go (Some c) t e = absurd (let z : ◌≡◌ {A = ℕ} 0 1 = cc in omega arith)
 
 -- ---- a turn of the walk
 

@@ -1,6 +1,6 @@
 -- What `check_advancement` promises, from its contract alone: one answer, the old state beside a refusal, the path's hops and a state in order beside
 -- acceptance, and (demand 2) that an honest proof is accepted and gives the state that the log's digests give at n.
-use Rattle.std.specs.Prelude.{◌≡◌, Bool, true, false, List, [], ◌∷◌, ℕ, suc, ◌+◌, ◌/◌, ◌^◌, ◌≤◌, eqb, length, drop}
+use Rattle.std.specs.Prelude.{Result, Ok, ◌≡◌, Bool, true, false, List, [], ◌∷◌, ℕ, suc, ◌+◌, ◌/◌, ◌^◌, ◌≤◌, eqb, length, drop}
 use Rattle.std.proofs.Math.Path.{refl, ap, ap₂}
 use Rattle.std.proofs.Common.{sym, ◌∙◌, arith, lit≤}
 use Rattle.lists.specs.Bytes.{Bytes, same}
@@ -19,10 +19,8 @@ use Rattle.rules.proofs.HonestAdvance.{honest_advance}
 use Rattle.rules.proofs.OneOutcome.{One, one_outcome}
 use Rattle.held.specs.declared.Held.{Held}
 use Rattle.held.specs.Holding.{holds, held_one}
-use Rattle.advancement.specs.declared.Advance.{Advance}
-use Rattle.advancement.specs.declared.Advance.TheVariants.{Accepted}
-use Rattle.advancement.specs.declared.Advanced.{Advanced}
-use Rattle.advancement.specs.Advancing.{answer_of, verdict_one, outcome_of, answer_from, answer_back}
+use Rattle.advancement.specs.declared.AdvanceError.{AdvanceError}
+use Rattle.advancement.specs.Advancing.{Advanced, answer_of, verdict_one, outcome_of, answer_from, answer_back}
 
 -- what the contract says of an answer r
 abbrev pub Answers : Held → Length → Digest → Bytes → Advanced → Type 0
@@ -66,14 +64,14 @@ module _ (h : Held) (n : Length) (D : Digest) (p : Bytes) (r : Advanced) (e : An
   told w f = e ∙ ap (calls.advance_answer (holds h)) f
 
   -- ANY REFUSAL HANDS BACK THE OLD STATE
-  pub refused_keeps : ((k : ℕ) → r.verdict ≡ Accepted k → ⊥) → r.held ≡ h
+  pub refused_keeps : ((k : ℕ) → r.verdict ≡ Ok k → ⊥) → r.held ≡ h
   refused_keeps bad = go (advance hash_of v1 (holds h) n.0 D.bytes p) refl
     where
       go : (w : Verdict (ℕ × rules.Held)) → advance hash_of v1 (holds h) n.0 D.bytes p ≡ w → r.held ≡ h
-      go (accepted m) f = absurd (bad m.0 (verdict_one r.verdict (Accepted m.0) (ap (λ (o : calls.Advanced). o.answer) (told (accepted m) f))))
+      go (accepted m) f = absurd (bad m.0 (verdict_one r.verdict (Ok m.0) (ap (λ (o : calls.Advanced). o.answer) (told (accepted m) f))))
       go (refused num k w) f = held_one (holds h) r.held h (ap (λ (o : calls.Advanced). o.held) (told (refused num k w) f)) refl
 
-  module _ (k : ℕ) (a : r.verdict ≡ Accepted k) where
+  module _ (k : ℕ) (a : r.verdict ≡ Ok k) where
     -- the rules accept what the code accepts
     pub accepted_is : advance hash_of v1 (holds h) n.0 D.bytes p ≡ accepted (k, holds r.held)
     unfolding IsNumbered
@@ -82,10 +80,10 @@ module _ (h : Held) (n : Length) (D : Digest) (p : Bytes) (r : Advanced) (e : An
         go : (w : Verdict (ℕ × rules.Held)) → advance hash_of v1 (holds h) n.0 D.bytes p ≡ w → IsNumbered w → w ≡ accepted (k, holds r.held)
         go (accepted m) f g =
             let o = told (accepted m) f in
-            let hops : m.0 ≡ k = ap (λ (x : calls.Advanced). x.answer.value) (sym o) ∙ ap (λ (v : Advance). (answer_of v).value) a in
+            let hops : m.0 ≡ k = ap (λ (x : calls.Advanced). x.answer.value) (sym o) ∙ ap (λ (v : Result ℕ AdvanceError). (answer_of v).value) a in
             ap₂ (λ (x : ℕ) (y : rules.Held). accepted (x, y)) hops (ap (λ (x : calls.Advanced). x.held) (sym o))
         go (refused num j w) f g =
-            let z : num ≡ 0 = ap (λ (x : calls.Advanced). x.answer.number) (sym (told (refused num j w) f)) ∙ ap (λ (v : Advance). (answer_of v).number) a in
+            let z : num ≡ 0 = ap (λ (x : calls.Advanced). x.answer.number) (sym (told (refused num j w) f)) ∙ ap (λ (v : Result ℕ AdvanceError). (answer_of v).number) a in
             absurd (omega arith)
 
     -- "the number of hops found good, which equals the path's hops when accepted"

@@ -1,5 +1,5 @@
 -- Checking an advancement: 01's number and values for each verdict, and one hop as the code takes it.
-use Rattle.std.specs.Prelude.{◌≡◌, refl, Bool, true, false, cond, ℕ, suc, ◌+◌, ◌/◌, ◌%◌, ◌^◌, ◌<◌, eqb, length, drop}
+use Rattle.std.specs.Prelude.{Option, None, Some, Result, Ok, Err, ◌≡◌, refl, Bool, true, false, cond, ℕ, suc, ◌+◌, ◌/◌, ◌%◌, ◌^◌, ◌<◌, eqb, length, drop}
 use Rattle.std.proofs.Common.{sym, ap, ◌∙◌}
 use Rattle.lists.specs.Bytes.{Bytes, same}
 use Rattle.hash.specs.Hash.{hash_of}
@@ -9,56 +9,62 @@ use Rattle.rules.specs.Refusals.{state_broken, no_such_number, wrong_length, row
 use Rattle.rules.specs.Held as rules
 use Rattle.rules.specs.Checking.{place, rows_after}
 use Rattle.rules.specs.Calls as calls
-use Rattle.held.specs.declared.Rows.{Rows}
-use Rattle.held.specs.declared.Rows.TheVariants.{Agree, Differ}
+use Rattle.held.specs.declared.Held.{Held}
 use Rattle.held.specs.Holding.{holds, held_from, held_back}
 use Rattle.held.specs.Rows.{rows_say}
-use Rattle.advancement.specs.declared.Advance.{Advance}
-use Rattle.advancement.specs.declared.Advance.TheVariants.{Accepted, StateBroken, NoSuchLength, WrongLength, RowDiffers, LinkDiffers, DigestDiffers}
-use Rattle.advancement.specs.declared.Advanced.{Advanced}
+use Rattle.advancement.specs.declared.AdvanceError.{AdvanceError}
+use Rattle.advancement.specs.declared.AdvanceError.TheVariants.{StateBroken, NoSuchLength, WrongLength, RowDiffers, LinkDiffers, DigestDiffers}
 use Rattle.advancement.specs.declared.Hop.{Hop}
 use Rattle.advancement.specs.declared.Hop.TheVariants.{Good, Row, Link}
 use Rattle.advancement.specs.declared.Hopped.{Hopped}
 
 -- ---- the outcome in 01's terms, with 02's place (A5)
 
-abbrev pub answer_of : Advance → calls.Answer
-answer_of (Accepted hops) = calls.gives hops
-answer_of StateBroken = calls.refuses state_broken
-answer_of NoSuchLength = calls.refuses no_such_number
-answer_of WrongLength = calls.refuses wrong_length
-answer_of (RowDiffers hops element row) = record { number = row_differs; value = hops; place = place element row }
-answer_of (LinkDiffers hops element level) = record { number = link_differs; value = hops; place = place element level }
-answer_of (DigestDiffers hops) = calls.refuses_with digest_differs hops
+-- what the check answers, and the state held then
+pub record Advanced : Type 0 where
+  pub verdict : Result ℕ AdvanceError
+  pub held : Held
+
+abbrev pub advanced : Result ℕ AdvanceError → Held → Advanced
+advanced v h = record { verdict = v; held = h }
+
+abbrev pub answer_of : Result ℕ AdvanceError → calls.Answer
+answer_of (Ok hops) = calls.gives hops
+answer_of (Err StateBroken) = calls.refuses state_broken
+answer_of (Err NoSuchLength) = calls.refuses no_such_number
+answer_of (Err WrongLength) = calls.refuses wrong_length
+answer_of (Err (RowDiffers hops element row)) = record { number = row_differs; value = hops; place = place element row }
+answer_of (Err (LinkDiffers hops element level)) = record { number = link_differs; value = hops; place = place element level }
+answer_of (Err (DigestDiffers hops)) = calls.refuses_with digest_differs hops
 
 abbrev pub outcome_of : Advanced → calls.Advanced
 outcome_of r = record { answer = answer_of r.verdict; held = holds r.held }
 
 -- and back: the outcome names the answer again, so a contract that fixes it fixes the answer
-verdict_from : calls.Answer → Advance
+verdict_from : calls.Answer → Result ℕ AdvanceError
 verdict_from a =
-    cond (eqb a.number state_broken) StateBroken
-    (cond (eqb a.number no_such_number) NoSuchLength
-    (cond (eqb a.number wrong_length) WrongLength
-    (cond (eqb a.number row_differs) (RowDiffers a.value a.place.element a.place.level)
-    (cond (eqb a.number link_differs) (LinkDiffers a.value a.place.element a.place.level)
-    (cond (eqb a.number digest_differs) (DigestDiffers a.value) (Accepted a.value))))))
+    cond (eqb a.number state_broken) (Err StateBroken)
+    (cond (eqb a.number no_such_number) (Err NoSuchLength)
+    (cond (eqb a.number wrong_length) (Err WrongLength)
+    (cond (eqb a.number row_differs) (Err (RowDiffers a.value a.place.element a.place.level))
+    (cond (eqb a.number link_differs) (Err (LinkDiffers a.value a.place.element a.place.level))
+    (cond (eqb a.number digest_differs) (Err (DigestDiffers a.value)) (Ok a.value))))))
 
 pub answer_from : calls.Advanced → Advanced
 answer_from o = record { verdict = verdict_from o.answer; held = held_from o.held }
 
-verdict_back : (v : Advance) → verdict_from (answer_of v) ≡ v
+verdict_back : (v : Result ℕ AdvanceError) → verdict_from (answer_of v) ≡ v
 unfolding verdict_from
-verdict_back (Accepted hops) = refl
-verdict_back StateBroken = refl
-verdict_back NoSuchLength = refl
-verdict_back WrongLength = refl
-verdict_back (RowDiffers hops element row) = refl
-verdict_back (LinkDiffers hops element level) = refl
-verdict_back (DigestDiffers hops) = refl
+verdict_back (Ok hops) = refl
+verdict_back (Err StateBroken) = refl
+verdict_back (Err NoSuchLength) = refl
+verdict_back (Err WrongLength) = refl
+verdict_back (Err (RowDiffers hops element row)) = refl
+verdict_back (Err (LinkDiffers hops element level)) = refl
+verdict_back (Err (DigestDiffers hops)) = refl
 
 -- two verdicts with one answer are one
-pub verdict_one : (v w : Advance) → answer_of v ≡ answer_of w → v ≡ w
+pub verdict_one : (v w : Result ℕ AdvanceError) → answer_of v ≡ answer_of w → v ≡ w
 verdict_one v w e = sym (verdict_back v) ∙ ap verdict_from e ∙ verdict_back w
 
 pub answer_back : (r : Advanced) → answer_from (outcome_of r) ≡ r
@@ -88,21 +94,21 @@ module _ (h : rules.Held) (l : ℕ) (x : Bytes) where
   to = h.count + 2 ^ l
 
   -- by what the rows say, and whether the link is the digest held
-  abbrev pub hop_by : Rows → Bool → Step
-  hop_by (Differ c) b = record { verdict = Row to c; state = h }
-  hop_by Agree false = record { verdict = Link to l; state = h }
-  hop_by Agree true = record { verdict = Good; state = record { log = h.log; count = to; digest = hash_of (element_msg to x); rows = rows_after l h } }
+  abbrev pub hop_by : Option ℕ → Bool → Step
+  hop_by (Some c) b = record { verdict = Row to c; state = h }
+  hop_by None false = record { verdict = Link to l; state = h }
+  hop_by None true = record { verdict = Good; state = record { log = h.log; count = to; digest = hash_of (element_msg to x); rows = rows_after l h } }
 
   unfoldable pub hop_of : Step
   hop_of = hop_by (rows_say l (h.count / 2 ^ l) (drop l h.rows) x) (same (row v1 x (suc l)) h.digest)
 
   -- by what its two tests give
-  pub hop_is : {s : Rows} {b : Bool} → rows_say l (h.count / 2 ^ l) (drop l h.rows) x ≡ s → same (row v1 x (suc l)) h.digest ≡ b → hop_of ≡ hop_by s b
+  pub hop_is : {s : Option ℕ} {b : Bool} → rows_say l (h.count / 2 ^ l) (drop l h.rows) x ≡ s → same (row v1 x (suc l)) h.digest ≡ b → hop_of ≡ hop_by s b
   unfolding hop_of
   hop_is e f = rw (e, f)
 
 -- what a hop's verdict says of the check, with k hops good before it
-abbrev pub verdict_by : Hop → ℕ → Advance
-verdict_by Good k = Accepted k
-verdict_by (Row j c) k = RowDiffers k j c
-verdict_by (Link j l) k = LinkDiffers k j l
+abbrev pub verdict_by : Hop → ℕ → Result ℕ AdvanceError
+verdict_by Good k = Ok k
+verdict_by (Row j c) k = Err (RowDiffers k j c)
+verdict_by (Link j l) k = Err (LinkDiffers k j l)

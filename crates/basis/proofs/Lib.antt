@@ -1,1 +1,1 @@
-pub mod Filling  -- the rows of a state, filled from the first up
+pub mod Filling  -- the rows of a state, made one for each level

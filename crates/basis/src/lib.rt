@@ -13,14 +13,8 @@ ghost use Rattle.basis.specs.Told.{held_told};
 use hash::Digest;
 use held::Held;
 use path::Length;
-use store::{Counted, Found};
-
-// The state that a practice holds; all zeros beside a refusal.
-#[derive(Clone, Copy)]
-pub struct HeldRead {
-    pub found: Found,
-    pub held: Held,
-}
+use std::array;
+use store::ReadError;
 
 // A row of the state at a length: it is in use by the bit of its level, and then holds T of the length with the bits up to that cleared.
 fn basis_row(s: &[u8], at: Length, level: usize) -> Digest
@@ -40,43 +34,21 @@ fn basis_rows(s: &[u8], at: Length) -> [Digest; held::LEVELS]
     requires { (place v1 at.0 ≤ length s.now) × (at.0 ≤ limit v1) }
     ensures { rows_of result ≡ basis (t_of hash_of v1 s.now) at.0 0 v1.levels }
 {
-    let zero = Digest { bytes: [0u8; 32] };
-    let mut rows = [zero; held::LEVELS];
-    let mut l: usize = 0;
-    while l < held::LEVELS {
-        let row = basis_row(s, at, l);
-        rows[l] = row;
-        l += 1;
-    }
-    rows
+    array::from_fn(|level| basis_row(s, at, level))
 }
 
 // The state that a practice holds at a length, as the store gives it.
-pub fn held_at(store: &[u8], at: Length) -> HeldRead
+pub fn held_at(store: &[u8], at: Length) -> Result<Held, ReadError>
     ensures { held_told result ≡ held_call hash_of v1 store.now at.0 }
 {
-    let counted = store::count(store);
-    let Counted::Count(count) = counted else {
-        return HeldRead {
-            found: Found::Damaged,
-            held: held::all_zeros(),
-        };
-    };
-    if count.0 < at.0 {
-        return HeldRead {
-            found: Found::NoSuchNumber,
-            held: held::all_zeros(),
-        };
+    let count = store::count(store)?;
+    if count < at {
+        return Err(ReadError::NoSuchNumber);
     }
-    let digest = layout::stored_digest(store, at);
-    let rows = basis_rows(store, at);
-    HeldRead {
-        found: Found::Done,
-        held: Held {
-            log: layout::log_of(store),
-            count: at,
-            digest: digest,
-            rows: rows,
-        },
-    }
+    Ok(Held {
+        log: layout::log_of(store),
+        count: at,
+        digest: layout::stored_digest(store, at),
+        rows: basis_rows(store, at),
+    })
 }

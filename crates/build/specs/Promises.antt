@@ -1,7 +1,7 @@
 -- What the contracts of this crate come to, for the hash and the version of this build. One outcome: two answers, and two outputs after a call,
 -- that meet a contract are the same. And demand 2, said of what a call was given, answered and left: from a store that passes the audit every
 -- proof is made, and the checker accepts it.
-use Rattle.std.specs.Prelude.{◌≡◌, ℕ, ◌≤◌, length, take}
+use Rattle.std.specs.Prelude.{◌≡◌, ℕ, ◌≤◌, length, take, Result, Ok}
 use Rattle.std.proofs.Common.{sym, ap, ap₂, ◌∙◌, lit≤}
 use Rattle.lists.specs.Bytes.{Bytes}
 use Rattle.hash.specs.Hash.{hash_of, hash_length}
@@ -15,23 +15,22 @@ use Rattle.rules.specs.Calls as calls
 use Rattle.rules.proofs.OneOutcome.{One, one_outcome}
 use Rattle.rules.proofs.Passed.{passed}
 use Rattle.rules.proofs.Built.{taken, membership_built, advancement_built, built_membership, built_advancement}
-use Rattle.held.specs.Holding.{holds}
+use Rattle.hash.specs.declared.Digest.{Digest}
+use Rattle.held.specs.declared.Held.{Held}
 use Rattle.store.specs.Told.{read_told}
-use Rattle.store.specs.declared.Read.{Read}
+use Rattle.store.specs.declared.ReadError.{ReadError}
 use Rattle.basis.specs.Told.{held_told}
-use Rattle.basis.specs.declared.HeldRead.{HeldRead}
 use Rattle.build.specs.Told.{built_told, built_from, built_back}
-use Rattle.build.specs.declared.Built.{Built}
-use Rattle.build.specs.declared.Built.TheVariants.{Written}
+use Rattle.build.specs.declared.BuildError.{BuildError}
 
 -- ---- one outcome for each call
 
 -- an answer, and the output after the call
-abbrev pub outcome : Built × Bytes → calls.Written
+abbrev pub outcome : Result ℕ BuildError × Bytes → calls.Written
 outcome x = written (built_told x.0) x.1
 
 one_written : (o : calls.Written) → One outcome o
-one_written o = one_outcome outcome (λ w. (built_from w.answer, w.bytes)) (λ x. ap (λ (b : Built). (b, x.1)) (built_back x.0)) o
+one_written o = one_outcome outcome (λ w. (built_from w.answer, w.bytes)) (λ x. ap (λ (b : Result ℕ BuildError). (b, x.1)) (built_back x.0)) o
 
 pub membership_one : (s : Bytes) (i n : ℕ) (out : Bytes) → One outcome (build_membership_call hash_of v1 s i n out)
 membership_one s i n out = one_written (build_membership_call hash_of v1 s i n out)
@@ -43,36 +42,36 @@ advancement_one s i n out = one_written (build_advancement_call hash_of v1 s i n
 
 module _ (s : Bytes) (c : ℕ) (pass : audit_call hash_of v1 s ≡ gives c) (i n : ℕ) (out o : Bytes) where
   -- A MEMBERSHIP PROOF IS MADE of each element up to n, wherever the output has room for it.
-  pub membership_made : (r : Built) → outcome (r, o) ≡ build_membership_call hash_of v1 s i n out → 1 ≤ i → i ≤ n → n ≤ c → total v1 (path i n) ≤ length out
-      → r ≡ Written (total v1 (path i n))
+  pub membership_made : (r : Result ℕ BuildError) → outcome (r, o) ≡ build_membership_call hash_of v1 s i n out → 1 ≤ i → i ≤ n → n ≤ c → total v1 (path i n) ≤ length out
+      → r ≡ Ok (total v1 (path i n))
   membership_made r met lo up hi room =
       let p = passed hash_of v1 s c pass in
       sym (built_back r)
       ∙ ap built_from (ap (λ (w : calls.Written). w.answer) met ∙ membership_built hash_of v1 s p.sound i n up (rw p.counted hi) out lo room)
 
   -- THE CHECKER ACCEPTS IT, with the path's hops, for any entry whose digest is the stored d.
-  pub membership_accepted : (size : ℕ) → outcome (Written size, o) ≡ build_membership_call hash_of v1 s i n out → (d : Read) → read_told d ≡ digest_call hash_of v1 s n
+  pub membership_accepted : (size : ℕ) → outcome (Ok size, o) ≡ build_membership_call hash_of v1 s i n out → (d : Result Digest ReadError) → read_told d ≡ digest_call hash_of v1 s n
       → (e : Bytes) → length e ≤ entry_limit → d_of v1 s i ≡ hash_of (entry_msg e)
-      → member_call hash_of v1 e i n d.digest.bytes (take size o) ≡ gives (length (hops i n))
+      → member_call hash_of v1 e i n (read_told d).digest (take size o) ≡ gives (length (hops i n))
   membership_accepted size met d read e short stored =
       ap₂ {A = Bytes} {B = Bytes} {C = Answer} (λ t p. member_call hash_of v1 e i n t p) (ap (λ (f : Found). f.digest) read) (ap taken met)
       ∙ built_membership hash_of hash_length v1 s c pass i n e out short stored (sym (ap (λ (w : calls.Written). w.answer.number) met))
 
   -- AN ADVANCEMENT PROOF IS MADE from each i up to n, wherever the output has room for it.
-  pub advancement_made : (r : Built) → outcome (r, o) ≡ build_advancement_call hash_of v1 s i n out → i ≤ n → n ≤ c → total v1 (path_after i n) ≤ length out
-      → r ≡ Written (total v1 (path_after i n))
+  pub advancement_made : (r : Result ℕ BuildError) → outcome (r, o) ≡ build_advancement_call hash_of v1 s i n out → i ≤ n → n ≤ c → total v1 (path_after i n) ≤ length out
+      → r ≡ Ok (total v1 (path_after i n))
   advancement_made r met up hi room =
       let p = passed hash_of v1 s c pass in
       sym (built_back r)
       ∙ ap built_from (ap (λ (w : calls.Written). w.answer) met ∙ advancement_built hash_of v1 s p.sound i n up (rw p.counted hi) out room)
 
   -- THE STATE THAT `held_at` GIVES AT i ACCEPTS IT, with the path's hops, and the state that `held_at` gives at n comes out.
-  pub advancement_accepted : (size : ℕ) → outcome (Written size, o) ≡ build_advancement_call hash_of v1 s i n out → (d : Read) → read_told d ≡ digest_call hash_of v1 s n
-      → (h h' : HeldRead) → held_told h ≡ held_call hash_of v1 s i → held_told h' ≡ held_call hash_of v1 s n
-      → advance_call hash_of v1 (holds h.held) n d.digest.bytes (take size o) ≡ record { answer = gives (length (hops i n)); held = holds h'.held }
+  pub advancement_accepted : (size : ℕ) → outcome (Ok size, o) ≡ build_advancement_call hash_of v1 s i n out → (d : Result Digest ReadError) → read_told d ≡ digest_call hash_of v1 s n
+      → (h h' : Result Held ReadError) → held_told h ≡ held_call hash_of v1 s i → held_told h' ≡ held_call hash_of v1 s n
+      → advance_call hash_of v1 (held_told h).held n (read_told d).digest (take size o) ≡ record { answer = gives (length (hops i n)); held = (held_told h').held }
   advancement_accepted size met d read h h' eh eh' =
-      let held_is : (x : HeldRead) (j : ℕ) → held_told x ≡ held_call hash_of v1 s j → holds x.held ≡ (held_call hash_of v1 s j).held = λ x j e. ap (λ (f : HeldFound). f.held) e in
-      ap (λ (x : rules.Held). advance_call hash_of v1 x n d.digest.bytes (take size o)) (held_is h i eh)
+      let held_is : (x : Result Held ReadError) (j : ℕ) → held_told x ≡ held_call hash_of v1 s j → (held_told x).held ≡ (held_call hash_of v1 s j).held = λ x j e. ap (λ (f : HeldFound). f.held) e in
+      ap (λ (x : rules.Held). advance_call hash_of v1 x n (read_told d).digest (take size o)) (held_is h i eh)
       ∙ ap₂ {A = Bytes} {B = Bytes} {C = Advanced} (λ t p. advance_call hash_of v1 (held_call hash_of v1 s i).held n t p) (ap (λ (f : Found). f.digest) read) (ap taken met)
       ∙ built_advancement hash_of hash_length v1 s c pass (lit≤ tt) i n out (sym (ap (λ (w : calls.Written). w.answer.number) met))
       ∙ ap (λ (x : rules.Held). record { answer = gives (length (hops i n)); held = x }) (sym (held_is h' n eh'))

@@ -13,17 +13,25 @@ ghost use Rattle.rules.specs.Calls.{written, build_membership_call, build_advanc
 ghost use Rattle.build.specs.Parts.{component_in, advancement_in};
 ghost use Rattle.build.specs.Told.{built_told};
 
-pub use basis::{HeldRead, held_at};
+pub use basis::held_at;
 use path::{Length, Position};
-use store::Counted;
+use store::Damaged;
 
-// What building a proof comes to; `size` is the bytes of the proof.
-#[derive(Clone, Copy)]
-pub enum Built {
-    Written { size: u64 },
+#[derive(Clone, Copy, Debug, PartialEq, Eq)]
+pub enum BuildError {
     Damaged,
     NoSuchNumber,
     OutputShort,
+}
+
+impl From<Damaged> for BuildError {
+    ghost use Rattle.build.specs.declared.BuildError.TheVariants as refusal;
+
+    ghost from_gives = { λ _ e. e ≡ refusal.Damaged };
+
+    fn from(_damaged: Damaged) -> BuildError {
+        BuildError::Damaged
+    }
 }
 
 // Writes the component of element j into out from index `to`.
@@ -32,11 +40,12 @@ fn put_component(s: &[u8], j: Position, out: &mut [u8], to: usize)
     ensures { out.new ≡ paste out.old to (component_in hash_of v1 s.now j.0) (size v1 j.0) }
 {
     let d = layout::body_of(s, j);
-    lists::put(out, to, d, d.len());
-    layout::put_links(s, j, out, to + d.len());
+    let end = to + d.len();
+    out[to..end].copy_from_slice(d);
+    layout::put_links(s, j, out, end);
 }
 
-// Writes the components on the path from i to n, without that of i, into out from index `at`.
+// Writes the components on the path from i to n, without that of i, into out from index `at`. The walk goes by hops, and no range has its steps.
 fn put_after(s: &[u8], i: Position, n: Length, out: &mut [u8], at: usize)
     requires { (i.0 ≤ n.0) × (n.0 ≤ limit v1) × (place v1 n.0 ≤ length s.now) × (at + total v1 (path_after i.0 n.0) ≤ length out.old) }
     ensures { out.new ≡ paste out.old at (advancement_in hash_of v1 s.now i.0 n.0) (total v1 (path_after i.0 n.0)) }
@@ -44,8 +53,7 @@ fn put_after(s: &[u8], i: Position, n: Length, out: &mut [u8], at: usize)
     let mut j = i;
     let mut to = at;
     while j.0 < n.0 {
-        let r = path::hop(j, n);
-        let next = r.to;
+        let next = path::hop(j, n).to;
         put_component(s, next, out, to);
         to += path::component_len(next);
         j = next;
@@ -56,47 +64,41 @@ fn put_after(s: &[u8], i: Position, n: Length, out: &mut [u8], at: usize)
 fn covers(count: Length, i: Length, n: Length) -> bool
     ensures { result ≡ (leb i.0 n.0 && leb n.0 count.0) }
 {
-    i.0 <= n.0 && n.0 <= count.0
+    i <= n && n <= count
 }
 
-// Writes the membership proof of element i in the log of n elements to the start of out. What stands behind it stays.
-pub fn membership(store: &[u8], i: Position, n: Length, out: &mut [u8]) -> Built
+// Writes the membership proof of element i in the log of n elements to the start of out. What stands behind it stays. Answers how many bytes it has.
+pub fn membership(store: &[u8], i: Position, n: Length, out: &mut [u8]) -> Result<u64, BuildError>
     ensures { written (built_told result) out.new ≡ build_membership_call hash_of v1 store.now i.0 n.0 out.old }
 {
-    let counted = store::count(store);
-    let Counted::Count(count) = counted else {
-        return Built::Damaged;
-    };
+    let count = store::count(store)?;
     if i.0 == 0 {
-        return Built::NoSuchNumber;
+        return Err(BuildError::NoSuchNumber);
     }
     if !covers(count, Length(i.0), n) {
-        return Built::NoSuchNumber;
+        return Err(BuildError::NoSuchNumber);
     }
     let size = path::membership_len(i, n);
     if out.len() < size {
-        return Built::OutputShort;
+        return Err(BuildError::OutputShort);
     }
     put_component(store, i, out, 0);
     put_after(store, i, n, out, path::component_len(i));
-    Built::Written { size: size as u64 }
+    Ok(size as u64)
 }
 
-// Writes the advancement proof from i to n elements to the start of out. What stands behind it stays.
-pub fn advancement(store: &[u8], i: Length, n: Length, out: &mut [u8]) -> Built
+// Writes the advancement proof from i to n elements to the start of out. What stands behind it stays. Answers how many bytes it has.
+pub fn advancement(store: &[u8], i: Length, n: Length, out: &mut [u8]) -> Result<u64, BuildError>
     ensures { written (built_told result) out.new ≡ build_advancement_call hash_of v1 store.now i.0 n.0 out.old }
 {
-    let counted = store::count(store);
-    let Counted::Count(count) = counted else {
-        return Built::Damaged;
-    };
+    let count = store::count(store)?;
     if !covers(count, i, n) {
-        return Built::NoSuchNumber;
+        return Err(BuildError::NoSuchNumber);
     }
     let size = path::advancement_len(i, n);
     if out.len() < size {
-        return Built::OutputShort;
+        return Err(BuildError::OutputShort);
     }
     put_after(store, Position(i.0), n, out, 0);
-    Built::Written { size: size as u64 }
+    Ok(size as u64)
 }

@@ -1,11 +1,9 @@
 -- What the walk of two proofs holds, as the messages that they come to.
-use Rattle.std.specs.Prelude.{◌≡◌, cond, ◌≤◌, take}
 use Rattle.dictionary.specs.Meeting.{Meets, two, lone}
 use Rattle.clash.specs.declared.meet.Meet.{Meet}
+use Rattle.clash.specs.declared.meet.Meet.TheVariants.{Two, Leaf, Inner}
 
 abbrev pub meet_of : Meet → Meets
-meet_of w = cond w.both (two w.first w.second) (lone (take w.size w.first))
-
-pub record Holds (w : Meet) (m : Meets) : Type 0 where
-  pub told : meet_of w ≡ m
-  pub fits : w.size ≤ 65
+meet_of (Two first second) = two first second
+meet_of (Leaf message) = lone message
+meet_of (Inner message) = lone message

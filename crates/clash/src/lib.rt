@@ -4,4 +4,4 @@
 mod meet; // what the two proofs come to
 mod show; // the routine that forms the messages
 
-pub use show::{Clashed, clash};
+pub use show::{ClashError, Clashed, Shown, clash};

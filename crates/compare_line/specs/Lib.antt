@@ -1,1 +1,1 @@
-pub mod Text  -- the line without its line feed, and what stands at the start of an output
+pub mod Text  -- the line without its line feed

@@ -1,8 +1,7 @@
--- The line without its line feed, test by test, and what a writer of words leaves.
-use Rattle.std.specs.Prelude.{◌≡◌, Bool, cond, ◌&&◌, ℕ, ◌≤◌, leb, length}
+-- The line without its line feed, test by test.
+use Rattle.std.specs.Prelude.{◌≡◌, Bool, cond, ◌&&◌, leb, length}
 use Rattle.lists.specs.Bytes.{Bytes}
 use Rattle.rules.specs.Numbers.{Version}
-use Rattle.rules.specs.Calls.{over}
 use Rattle.copies.specs.Calls.{compare_call}
 use Rattle.copies.specs.Line.{words, unread, file_most, text_of}
 
@@ -11,9 +10,3 @@ pub text_is : (v : Version) (s t : Bytes) {read r few fewer : Bool} → read ≡
     → text_of v read s t ≡ cond (r && (few && fewer)) (words (compare_call v s t)) unread
 unfolding text_of
 text_is v s t e1 e2 e3 = rw (e1, e2, e3)
-
--- m, of n bytes, stands at the start of the output b, which is now o, and leaves room for the line feed
-pub record Starts (m b : Bytes) (n : ℕ) (o : Bytes) : Type 0 where
-  pub long : n ≡ length m
-  pub stands : o ≡ over m b
-  pub room : length m ≤ 48

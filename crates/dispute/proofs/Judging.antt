@@ -3,6 +3,7 @@ use mathlib.Core.Path.{◌≡◌, refl, sym, ap, ◌∙◌}
 use mathlib.Core.Bool.{Bool, true, false}
 use Prim.Native.Nat.{ℕ, ◌≤◌, ◌<◌}
 use lib.ListN.{length}
+use Rattle.std.specs.Prelude.{Err, is_ok}
 use borrow.Author.Tests.{le-leb, lt-leb}
 use Rattle.lists.specs.Bytes.{Bytes}
 use Rattle.hash.specs.Hash.{hash_of}
@@ -13,17 +14,16 @@ use Rattle.rules.specs.Calls.{Disputed, showing, both_accepted, dispute_call}
 use Rattle.rules.proofs.Verdicts.{accepted_some, between_true}
 use Rattle.rules.proofs.Acceptance.{accepts}
 use Rattle.rules.proofs.Spots as spots
-use Rattle.membership.specs.Verdicts.{verdict_of}
-use Rattle.membership.specs.declared.Verdict.{Verdict as Found}
-use Rattle.dispute.specs.Answers.{finding_of, outcome}
+use Rattle.membership.specs.Verdicts.{Verdict as Found, verdict_of, accepted_ok}
+use Rattle.dispute.specs.Answers.{Answer, finding_of, outcome}
 use Rattle.dispute.specs.Ready.{Ready}
-use Rattle.dispute.specs.declared.settle.Answer.{Answer}
-use Rattle.dispute.specs.declared.settle.Answer.TheVariants.{BufferShort, NotAccepted}
+use Rattle.dispute.specs.declared.settle.Side.TheVariants as side
+use Rattle.dispute.specs.declared.settle.DisputeError.TheVariants.{BufferShort, NotAccepted}
 
 -- what the test of a checked proof says of the rules' verdict
-pub heard : (e : Bytes) (i n : ℕ) (D p : Bytes) (v : Found) (b t : Bool) → verdict_of v ≡ member hash_of v1 e i n D p → b ≡ is_accepted (verdict_of v) → b ≡ t
+pub heard : (e : Bytes) (i n : ℕ) (D p : Bytes) (v : Found) (t : Bool) → verdict_of v ≡ member hash_of v1 e i n D p → is_ok v ≡ t
     → is_accepted (member hash_of v1 e i n D p) ≡ t
-heard e i n D p v b t ev eb et = sym (eb ∙ ap is_accepted ev) ∙ et
+heard e i n D p v t ev et = ap is_accepted (sym ev) ∙ sym (accepted_ok v) ∙ et
 
 module _ (e1 p1 e2 p2 : Bytes) (i n : ℕ) (D b1 b2 : Bytes) where
   -- the rules' outcome, and the two verdicts in it
@@ -42,14 +42,14 @@ module _ (e1 p1 e2 p2 : Bytes) (i n : ℕ) (D b1 b2 : Bytes) where
   abbrev pub Second : Bool
   Second = is_accepted two
 
-  short : roomy b1 b2 ≡ false → outcome BufferShort b1 b2 ≡ Here
+  short : roomy b1 b2 ≡ false → outcome (Err BufferShort) b1 b2 ≡ Here
   unfolding finding_of
   short e = sym (spots.disputed_is hash_of v1 e1 p1 e2 p2 i n D b1 b2 e refl refl refl)
 
-  pub first_short : length b1 < message_room → outcome BufferShort b1 b2 ≡ Here
+  pub first_short : length b1 < message_room → outcome (Err BufferShort) b1 b2 ≡ Here
   first_short h = short (rw (lt-leb message_room (length b1) h))
 
-  pub second_short : message_room ≤ length b1 → length b2 < message_room → outcome BufferShort b1 b2 ≡ Here
+  pub second_short : message_room ≤ length b1 → length b2 < message_room → outcome (Err BufferShort) b1 b2 ≡ Here
   second_short h k = short (rw (le-leb message_room (length b1) h, lt-leb message_room (length b2) k))
 
   module _ (h : message_room ≤ length b1) (k : message_room ≤ length b2) where
@@ -61,11 +61,11 @@ module _ (e1 p1 e2 p2 : Bytes) (i n : ℕ) (D b1 b2 : Bytes) where
         let room : roomy b1 b2 ≡ true = rw (le-leb message_room (length b1) h, le-leb message_room (length b2) k) in
         spots.disputed_is hash_of v1 e1 p1 e2 p2 i n D b1 b2 room refl refl refl
 
-    pub first_refused : First ≡ false → outcome (NotAccepted 1) b1 b2 ≡ Here
+    pub first_refused : First ≡ false → outcome (Err (NotAccepted side.First)) b1 b2 ≡ Here
     unfolding finding_of
     first_refused a = sym (long ∙ spots.first_refused shows b1 b2 one two a)
 
-    pub second_refused : First ≡ true → Second ≡ false → outcome (NotAccepted 2) b1 b2 ≡ Here
+    pub second_refused : First ≡ true → Second ≡ false → outcome (Err (NotAccepted side.Second)) b1 b2 ≡ Here
     unfolding finding_of
     second_refused a c = sym (long ∙ spots.second_refused shows b1 b2 one two a c)
 

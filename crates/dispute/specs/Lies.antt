@@ -1,7 +1,7 @@
--- THE DISPUTE, FOR THE CODE. The hypotheses are what the calls' contracts say: both checks answered Accepted, and the dispute answered r and left
--- x and y in the buffers. Then r is Same, and entries and proofs are equal and the buffers as they were; or the buffers begin with two different
+-- THE DISPUTE, FOR THE CODE. The hypotheses are what the calls' contracts say: both checks answered Ok, and the dispute answered r and left
+-- x and y in the buffers. Then r is Ok with no lengths, and entries and proofs are equal and the buffers as they were; or the buffers begin with two different
 -- messages of a published form that have one hash, r tells their lengths, and the rest of the buffers is as it was.
-use Rattle.std.specs.Prelude.{◌≡◌, ℕ, ◌≤◌, length, take, drop}
+use Rattle.std.specs.Prelude.{◌≡◌, ℕ, ◌≤◌, length, take, drop, None, Some, Ok}
 use Rattle.std.proofs.Common.{sym}
 use Rattle.std.proofs.Math.Bool.{true}
 use borrow.Author.Tests.{le-leb}
@@ -14,15 +14,12 @@ use Rattle.rules.specs.Calls.{dispute_call}
 use Rattle.rules.proofs.Settled.{Clash}
 use Rattle.rules.proofs.Shown as Rules
 use Rattle.membership.specs.Verdicts.{verdict_of}
-use Rattle.membership.specs.declared.Verdict.TheVariants.{Accepted}
-use Rattle.dispute.specs.Answers.{finding_of, outcome, one_answer}
-use Rattle.dispute.specs.declared.settle.Answer.{Answer}
-use Rattle.dispute.specs.declared.settle.Answer.TheVariants.{Same, Shown}
+use Rattle.dispute.specs.Answers.{Answer, finding_of, outcome, one_answer}
 
 module _ (e1 p1 e2 p2 b1 b2 : Bytes) (r : Answer) (x y : Bytes) where
   -- nothing differs, and nothing was written
   pub record Alike : Type 0 where
-    pub answered : r ≡ Same
+    pub answered : r ≡ Ok None
     pub entries : e1 ≡ e2
     pub proofs : p1 ≡ p2
     pub first_kept : x ≡ b1
@@ -32,7 +29,7 @@ module _ (e1 p1 e2 p2 b1 b2 : Bytes) (r : Answer) (x y : Bytes) where
   pub record Lie : Type 0 where
     pub one : Bytes
     pub two : Bytes
-    pub answered : r ≡ Shown (length one) (length two)
+    pub answered : r ≡ Ok (Some (record { first = length one; second = length two }))
     pub begins_first : take (length one) x ≡ one
     pub begins_second : take (length two) y ≡ two
     pub first_rest : drop (length one) x ≡ drop (length one) b1
@@ -46,7 +43,7 @@ module _ (e1 p1 e2 p2 b1 b2 : Bytes) (r : Answer) (x y : Bytes) where
   decided : Rules.Ends hash_of v1 e1 p1 e2 p2 b1 b2 (outcome r x y) → Decided
   unfolding finding_of
   decided (Rules.same s) = alike (record {
-    answered = one_answer r Same s.answered;
+    answered = one_answer r (Ok None) s.answered;
     entries = s.entries;
     proofs = s.proofs;
     first_kept = s.first_kept;
@@ -55,7 +52,7 @@ module _ (e1 p1 e2 p2 b1 b2 : Bytes) (r : Answer) (x y : Bytes) where
   decided (Rules.clashing s) = lie (record {
     one = s.one;
     two = s.two;
-    answered = one_answer r (Shown (length s.one) (length s.two)) s.answered;
+    answered = one_answer r (Ok (Some (record { first = length s.one; second = length s.two }))) s.answered;
     begins_first = s.begins_first;
     begins_second = s.begins_second;
     first_rest = s.first_rest;
@@ -64,7 +61,7 @@ module _ (e1 p1 e2 p2 b1 b2 : Bytes) (r : Answer) (x y : Bytes) where
   })
 
   pub dispute_decides : (i n : ℕ) (D : Bytes) (k1 k2 : ℕ) → message_room ≤ length b1 → message_room ≤ length b2
-      → verdict_of (Accepted k1) ≡ member hash_of v1 e1 i n D p1 → verdict_of (Accepted k2) ≡ member hash_of v1 e2 i n D p2
+      → verdict_of (Ok k1) ≡ member hash_of v1 e1 i n D p1 → verdict_of (Ok k2) ≡ member hash_of v1 e2 i n D p2
       → outcome r x y ≡ dispute_call hash_of v1 e1 p1 e2 p2 i n D b1 b2 → Decided
   unfolding verdict_of
   dispute_decides i n D k1 k2 l1 l2 a1 a2 o =

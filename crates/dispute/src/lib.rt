@@ -5,4 +5,5 @@ mod show; // writing messages into buffers
 mod settle; // the dispute routine
 
 pub use place::{Part, differing, differing_at};
-pub use settle::{Answer, dispute};
+pub use settle::{DisputeError, Side, dispute};
+pub use show::Shown;

@@ -4,39 +4,25 @@
 
 ghost use Rattle.std.specs.Prelude.{◌≤◌};
 
-use audit::Audited;
+use audit::AuditError;
 use hash::Digest;
-use membership::Verdict;
+use membership::MembershipError;
 use path::{Length, Position};
 use std::io;
-use store::{Appended, Counted};
-
-fn say(rt: &impl Print, text: &str) -> io::Result<()> {
-    print!(rt; "{text}")
-}
-
-fn say_number(rt: &impl Print, n: u64) -> io::Result<()> {
-    print!(rt; "{n}")
-}
-
-// Ends a line with a number.
-fn end_with(rt: &impl Print, n: u64) -> io::Result<()> {
-    say_number(rt, n)?;
-    say(rt, "\n")
-}
+use store::{AppendError, Damaged};
 
 // The hops of the path from i to n, up to 64 of them.
 fn hops(i: Position, n: Length) -> u64
     ensures { result ≤ 64 }
 {
     let mut j = i;
-    let mut k: u64 = 0;
-    while j.0 < n.0 && k < 64 {
-        let r = path::hop(j, n);
-        j = r.to;
-        k += 1;
+    for k in 0..64 {
+        if n.0 <= j.0 {
+            return k;
+        }
+        j = path::hop(j, n).to;
     }
-    k
+    64
 }
 
 // 01: "1 to 1,048,575: 38 hops, 39 components, 14,048 bytes, the longest." 02, A7: "at most 62 hops, the longest proof is 34,784 bytes".
@@ -44,28 +30,21 @@ fn longest(rt: &impl Print) -> io::Result<()> {
     let i = Position(1);
     let n = Length(4_294_967_295);
     let k = hops(i, n);
-    say(rt, "1 to 4294967295: ")?;
-    say_number(rt, k)?;
-    say(rt, " hops, ")?;
-    say_number(rt, k + 1)?;
-    say(rt, " components, bytes ")?;
-    end_with(rt, path::membership_len(i, n) as u64)
+    let components = k + 1;
+    let size = path::membership_len(i, n);
+    println!(rt; "1 to 4294967295: {k} hops, {components} components, bytes {size}")
 }
 
 // 01's number for a verdict.
-fn number_of(v: Verdict) -> u64 {
+fn number_of(v: Result<u64, MembershipError>) -> u64 {
     match v {
-        Verdict::Accepted { hops: _ } => 0,
-        Verdict::EntryTooLong => 3,
-        Verdict::NoSuchElement => 4,
-        Verdict::WrongLength => 7,
-        Verdict::OtherEntry => 8,
-        Verdict::LinkDiffers {
-            hops: _,
-            element: _,
-            level: _,
-        } => 10,
-        Verdict::DigestDiffers { hops: _ } => 11,
+        Ok(_) => 0,
+        Err(MembershipError::EntryTooLong) => 3,
+        Err(MembershipError::NoSuchElement) => 4,
+        Err(MembershipError::WrongLength) => 7,
+        Err(MembershipError::OtherEntry) => 8,
+        Err(MembershipError::LinkDiffers { .. }) => 10,
+        Err(MembershipError::DigestDiffers { .. }) => 11,
     }
 }
 
@@ -78,72 +57,59 @@ fn over_the_limit(rt: &impl Print) -> io::Result<()> {
         Digest { bytes: [0u8; 32] },
         b"",
     );
-    say(rt, "length 4294967296: ")?;
-    end_with(rt, number_of(v))
+    let number = number_of(v);
+    println!(rt; "length 4294967296: {number}")
 }
 
-fn say_audit(rt: &impl Print, v: Audited) -> io::Result<()> {
+fn say_audit(rt: &impl Print, v: Result<Length, AuditError>) -> io::Result<()> {
     match v {
-        Audited::Sound(n) => {
-            say(rt, "sound ")?;
-            end_with(rt, n.0)
-        }
-        Audited::Wrong(j) => {
-            say(rt, "wrong ")?;
-            end_with(rt, j.0)
-        }
-        Audited::Damaged => {
-            say(rt, "refused ")?;
-            end_with(rt, 1)
-        }
+        Ok(Length(n)) => println!(rt; "sound {n}"),
+        Err(AuditError::Wrong(Position(j))) => println!(rt; "wrong {j}"),
+        Err(AuditError::Damaged) => println!(rt; "refused 1"),
     }
 }
 
 // The number of an append's answer, and the count now held.
-fn say_append(rt: &impl Print, a: Appended) -> io::Result<()> {
+fn say_append(rt: &impl Print, a: Result<Length, AppendError>) -> io::Result<()> {
     match a {
-        Appended::Count(n) => {
-            say(rt, "0 with the count ")?;
-            end_with(rt, n.0)
-        }
-        Appended::Damaged => end_with(rt, 1),
-        Appended::TooLong => end_with(rt, 3),
-        Appended::Full => end_with(rt, 5),
+        Ok(Length(n)) => println!(rt; "0 with the count {n}"),
+        Err(AppendError::Damaged) => println!(rt; "1"),
+        Err(AppendError::TooLong) => println!(rt; "3"),
+        Err(AppendError::Full) => println!(rt; "5"),
     }
 }
 
 // "Store of 15 bytes: 1."
 fn fifteen(rt: &impl Print) -> io::Result<()> {
-    say(rt, "store of 15 bytes: ")?;
+    print!(rt; "store of 15 bytes: ")?;
     match store::count(&[0u8; 15]) {
-        Counted::Count(n) => end_with(rt, n.0),
-        Counted::Damaged => end_with(rt, 1),
+        Ok(Length(n)) => println!(rt; "{n}"),
+        Err(Damaged) => println!(rt; "1"),
     }
 }
 
-// A started store of so many bytes: its audit, and two appends.
+// A started store of so many bytes, its audit, and two appends. What has no room for its header is not started, and refused by these.
 fn started(rt: &impl Print, room: &mut [u8]) -> io::Result<()> {
-    say(rt, "started store of ")?;
-    say_number(rt, room.len() as u64)?;
-    say(rt, " bytes: ")?;
-    store::start(room, 7);
+    let bytes = room.len();
+    print!(rt; "started store of {bytes} bytes: ")?;
+    let _ = store::start(room, 7);
     say_audit(rt, audit::audit(room))?;
-    say(rt, "  append: ")?;
+    print!(rt; "  append: ")?;
     say_append(rt, store::append(room, b"lot", 65))?;
-    say(rt, "  append again: ")?;
+    print!(rt; "  append again: ")?;
     say_append(rt, store::append(room, b"lot", 65))
 }
 
 // "Entry of 4,096 goes in; 4,097 gives 3; 0 goes in."
 fn entries(rt: &impl Print) -> io::Result<()> {
     let mut room = [0u8; 211];
-    store::start(&mut room, 7);
+    let _ = store::start(&mut room, 7);
     let long = [97u8; 4097];
-    say(rt, "entry of 4096 bytes: ")?;
+    print!(rt; "entry of 4096 bytes: ")?;
     say_append(rt, store::append(&mut room, &long[0..4096], 65))?;
-    say(rt, "entry of 4097 bytes: ")?;
+    print!(rt; "entry of 4097 bytes: ")?;
     say_append(rt, store::append(&mut room, &long, 65))?;
-    say(rt, "entry of 0 bytes: ")?;
+    print!(rt; "entry of 0 bytes: ")?;
     say_append(rt, store::append(&mut room, b"", 65))
 }
 

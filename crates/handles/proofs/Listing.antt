@@ -1,189 +1,113 @@
--- A lent list, row by row: the order of two rows by their words, whether the rows rise, and whether one of them is a handle.
-use mathlib.Core.Path.{◌≡◌, refl, sym, ap, ◌∙◌}
-use mathlib.Core.Logic.{◌≢◌}
-use mathlib.Core.Bool.{Bool, true, false, ◌&&◌, ◌||◌}
-use mathlib.Core.List.{[]}
-use Prim.Native.Nat.{ℕ, suc, ◌+◌, ◌*◌, ◌%◌, ◌^◌, ◌≤◌, ◌<◌}
-use native.Mathlib.Nat.{le_of_lt, suc-mul, mul-le-mul_right}
-use native.Mathlib.Decide.{dec_lt}
-use native.Mathlib.Omega.{arith}
-use lib.Dec.{ltb, leb-zero}
-use lib.ListN.{length, take, drop, drop_of_length-le}
-use borrow.Author.Tests.{lt-ltb, le-ltb}
-use Rattle.lists.specs.Bytes.{Bytes, AreBytes, same, number}
-use Rattle.dictionary.specs.Handles.{rows_of, rising_from, has}
-use Rattle.dictionary.proofs.Rows.{rows_none, rows_more, rows_next}
-use Rattle.dictionary.proofs.Bits.{word, row_words, word_bound}
+-- A lent list, row by row: the rows as the code has them, their order, and whether one of them is a handle.
+use Rattle.std.proofs.Common.{◌≡◌, refl, sym, ap, ap₂, ◌∙◌, Bool, true, false, ◌&&◌, ◌||◌, List, [], ◌∷◌, ℕ, zero, suc, ◌+◌, ◌*◌, ◌/◌, ◌<◌, arith, length, take, drop, get_or, eqb, ltb, leb}
+use Rattle.std.specs.Simd.{first_chunks}
+use Rattle.std.specs.List.{list_any, IsAllAdjacentAnswer}
+use Rattle.std.specs.Prelude.{Some}
+use Rattle.std.specs.Ordering.{partial_lt, nat_cmp}
+use Rattle.std.specs.Cmp.Lexicographic.{pointwise, slice_partial_cmp}
+use Rattle.std.proofs.Math.Decide.{dec_lt}
+use lib.Dec.{leb-zero}
+use borrow.Author.Tests.{lt-ltb, le-ltb, eq-eqb, ne_eqb}
+use Rattle.dictionary.proofs.Rows.{All, Row, rows_bytes_lem}
+use Rattle.lists.specs.Bytes.{Bytes, AreBytes, same, number_from, number}
+use Rattle.dictionary.specs.Handles.{rows, rows_of, rising_from, has}
 
--- ---- two rows by their words
+-- the pieces of 32 bytes are the rows
+pub pieces_are_rows : (n : ℕ) (s : Bytes) → first_chunks 32 n s ≡ rows n s
+unfolding rows
+pieces_are_rows zero s = refl
+pieces_are_rows (suc n) s = ap {B = List Bytes} (λ l. take 32 s ∷ l) (pieces_are_rows n (drop 32 s))
 
--- two tests of order that come to the same
-same_test : (a b x y : ℕ) → (a < b → x < y) → (b ≤ a → y ≤ x) → ltb a b ≡ ltb x y
-same_test a b x y up down = go (dec_lt a b)
+-- one string is another where the definitions' test says so
+pub same_tests : (x y : Bytes) → pointwise eqb x y ≡ same x y
+same_tests [] [] = refl
+same_tests [] (b ∷ y) = refl
+same_tests (a ∷ x) [] = refl
+same_tests (a ∷ x) (b ∷ y) = ap (λ (t : Bool). eqb a b && t) (same_tests x y)
+
+pub any_has : (k : Bytes) (hs : List Bytes) → list_any (λ h. pointwise eqb h k) hs ≡ has k hs
+unfolding has
+any_has k [] = refl
+any_has k (h ∷ hs) = ap₂ {A = Bool} {B = Bool} {C = Bool} (λ a b. a || b) (same_tests h k) (any_has k hs)
+
+-- ---- the order of rows: byte by byte, as numbers
+
+-- how `<` of two byte strings answers
+abbrev pub below : Bytes → Bytes → Bool
+below = partial_lt (slice_partial_cmp (λ a b. Some (nat_cmp a b)))
+
+-- the first byte that differs decides, whatever follows
+ahead : (x y : Bytes) (p q : ℕ) → p < q → length x ≡ length y → AreBytes x → AreBytes y → number_from p x < number_from q y
+unfolding number_from
+ahead [] [] p q h l a b = h
+ahead [] (d ∷ y) p q h l a b = absurd (omega arith)
+ahead (c ∷ x) [] p q h l a b = absurd (omega arith)
+ahead (c ∷ x) (d ∷ y) p q h l a b =
+    let k = a 0 in
+    ahead x y (p * 256 + c) (q * 256 + d) (omega arith) (omega arith) (λ i. a (suc i)) (λ i. b (suc i))
+
+below_from : (n : ℕ) (x y : Bytes) → length x ≡ length y → AreBytes x → AreBytes y → below x y ≡ ltb (number_from n x) (number_from n y)
+unfolding number_from
+below_from n [] [] l a b = sym (le-ltb n n (omega arith))
+below_from n [] (d ∷ y) l a b = absurd (omega arith)
+below_from n (c ∷ x) [] l a b = absurd (omega arith)
+below_from n (c ∷ x) (d ∷ y) l a b = go (dec_lt c d) (dec_lt d c) (λ m. below_from m x y)
   where
-    go : Dec (a < b) → ltb a b ≡ ltb x y
-    go (yes h) = lt-ltb a b h ∙ sym (lt-ltb x y (up h))
-    go (no h) = le-ltb a b (omega arith) ∙ sym (le-ltb x y (down (omega arith)))
+    xs : (i : ℕ) → get_or x i 0 < 256
+    xs i = a (suc i)
 
--- the high part decides where it differs, and the low part where not
-lead : (k a b x y : ℕ) → x < k → y < k → a ≢ b → ltb a b ≡ ltb (a * k + x) (b * k + y)
-lead k a b x y hx hy n = same_test a b (a * k + x) (b * k + y) (λ h. up a b x y hx h) (λ h. le_of_lt (up b a y x hy (omega arith)))
-  where
-    up : (a b x y : ℕ) → x < k → a < b → a * k + x < b * k + y
-    up a b x y hx h = let m = mul-le-mul_right k h in let e = suc-mul a k in omega arith
+    ys : (i : ℕ) → get_or y i 0 < 256
+    ys i = b (suc i)
 
-trail : (k a b x y : ℕ) → a ≡ b → ltb x y ≡ ltb (a * k + x) (b * k + y)
-trail k a b x y e = let f = ap (λ (n : ℕ). n * k) e in same_test x y (a * k + x) (b * k + y) (λ h. omega arith) (λ h. omega arith)
+    long : length x ≡ length y
+    long = omega arith
 
-bounded : (m k a x : ℕ) → a < m → x < k → a * k + x < m * k
-bounded m k a x ha hx = let l = mul-le-mul_right k ha in let e = suc-mul a k in omega arith
+    go : Dec (c < d) → Dec (d < c) → ((m : ℕ) → length x ≡ length y → AreBytes x → AreBytes y → below x y ≡ ltb (number_from m x) (number_from m y)) → below (c ∷ x) (d ∷ y) ≡ ltb (number_from (n * 256 + c) x) (number_from (n * 256 + d) y)
+    go (yes h) t f = rw (lt-ltb c d h) (sym (lt-ltb _ _ (ahead x y (n * 256 + c) (n * 256 + d) (omega arith) long xs ys)))
+    go (no h) (yes k) f =
+        let g = ahead y x (n * 256 + d) (n * 256 + c) (omega arith) (sym long) ys xs in
+        rw (le-ltb c d (omega arith), ne_eqb c d (λ e. absurd (omega arith))) (sym (le-ltb (number_from (n * 256 + c) x) (number_from (n * 256 + d) y) (omega arith)))
+    go (no h) (no k) f =
+        let e : d ≡ c = omega arith in
+        rw (e, le-ltb c c (omega arith), eq-eqb c c refl) (f (n * 256 + c) long xs ys)
 
-abbrev Word : ℕ → Type 0
-Word x = x < 256 ^ 8
+-- two rows, as the code compares them
+row_below : (x y : Bytes) → Row x → Row y → below x y ≡ leb (suc (number x)) (number y)
+row_below x y r s = below_from 0 x y (r.whole ∙ sym s.whole) r.bytes s.bytes
 
--- numbers of two, three and four words
-abbrev pair : ℕ → ℕ → ℕ
-pair c d = c * 256 ^ 8 + d
+-- ---- whether the rows rise: each is above the one before it
 
-abbrev three : ℕ → ℕ → ℕ → ℕ
-three b c d = b * 256 ^ 16 + pair c d
+ordered : List Bytes → Bool
+ordered [] = true
+ordered (x ∷ []) = true
+ordered (x ∷ y ∷ l) = below x y && ordered (y ∷ l)
 
-abbrev four : ℕ → ℕ → ℕ → ℕ → ℕ
-four a b c d = a * 256 ^ 24 + three b c d
+falls : (a b : Bool) → false ≡ b → false ≡ a && b
+falls true b e = e
+falls false b e = refl
 
-pair_bound : (c d : ℕ) → Word c → Word d → pair c d < 256 ^ 16
-pair_bound c d hc hd = bounded (256 ^ 8) (256 ^ 8) c d hc hd
+adjacent : (hs : List Bytes) (r : Bool) → IsAllAdjacentAnswer (λ x y t. t ≡ below x y) hs r → r ≡ ordered hs
+unfolding ordered
+adjacent [] true h = refl
+adjacent (x ∷ []) true h = refl
+adjacent (x ∷ y ∷ l) true h =
+    ap₂ {A = Bool} {B = Bool} {C = Bool} (λ a b. a && b) (h 0 [] (omega arith)) (adjacent (y ∷ l) true (λ k d i. let e : suc k + 1 ≡ suc (k + 1) = omega arith in rw e at (h (suc k) d (omega arith))))
+adjacent [] false h = let i = h.1 in absurd (omega arith)
+adjacent (x ∷ []) false h = let i = h.1 in absurd (omega arith)
+adjacent (x ∷ y ∷ l) false (zero, i, f) = ap (λ (t : Bool). t && ordered (y ∷ l)) (f [])
+adjacent (x ∷ y ∷ l) false (suc k, i, f) =
+    let e : suc k + 1 ≡ suc (k + 1) = omega arith in
+    falls (below x y) (ordered (y ∷ l)) (adjacent (y ∷ l) false (k, omega arith, λ d. rw e at (f d)))
 
-three_bound : (b c d : ℕ) → Word b → Word c → Word d → three b c d < 256 ^ 24
-three_bound b c d hb hc hd = bounded (256 ^ 8) (256 ^ 16) b (pair c d) hb (pair_bound c d hc hd)
+risen : (x : Bytes) (l : List Bytes) → Row x → All Row l → ordered (x ∷ l) ≡ rising_from (suc (number x)) l
+unfolding ordered rising_from All
+risen x [] r a = refl
+risen x (y ∷ l) r a = ap₂ {A = Bool} {B = Bool} {C = Bool} (λ a b. a && b) (row_below x y r a.0) (risen y l a.0 a.1)
 
-module _ (a0 a1 a2 a3 b0 b1 b2 b3 : ℕ) where
-  first_decides : Word a1 → Word a2 → Word a3 → Word b1 → Word b2 → Word b3 → a0 ≢ b0 → ltb a0 b0 ≡ ltb (four a0 a1 a2 a3) (four b0 b1 b2 b3)
-  first_decides h1 h2 h3 k1 k2 k3 n = lead (256 ^ 24) a0 b0 (three a1 a2 a3) (three b1 b2 b3) (three_bound a1 a2 a3 h1 h2 h3) (three_bound b1 b2 b3 k1 k2 k3) n
+rises : (hs : List Bytes) → All Row hs → ordered hs ≡ rising_from 0 hs
+unfolding ordered rising_from All
+rises [] a = refl
+rises (x ∷ l) a = risen x l a.0 a.1 ∙ ap (λ (t : Bool). t && rising_from (suc (number x)) l) (sym (leb-zero (number x)))
 
-  second_decides : Word a2 → Word a3 → Word b2 → Word b3 → a0 ≡ b0 → a1 ≢ b1 → ltb a1 b1 ≡ ltb (four a0 a1 a2 a3) (four b0 b1 b2 b3)
-  second_decides h2 h3 k2 k3 e n =
-      lead (256 ^ 16) a1 b1 (pair a2 a3) (pair b2 b3) (pair_bound a2 a3 h2 h3) (pair_bound b2 b3 k2 k3) n ∙ trail (256 ^ 24) a0 b0 (three a1 a2 a3) (three b1 b2 b3) e
-
-  third_decides : Word a3 → Word b3 → a0 ≡ b0 → a1 ≡ b1 → a2 ≢ b2 → ltb a2 b2 ≡ ltb (four a0 a1 a2 a3) (four b0 b1 b2 b3)
-  third_decides h3 k3 e f n =
-      lead (256 ^ 8) a2 b2 a3 b3 h3 k3 n ∙ trail (256 ^ 16) a1 b1 (pair a2 a3) (pair b2 b3) f ∙ trail (256 ^ 24) a0 b0 (three a1 a2 a3) (three b1 b2 b3) e
-
-  fourth_decides : a0 ≡ b0 → a1 ≡ b1 → a2 ≡ b2 → ltb a3 b3 ≡ ltb (four a0 a1 a2 a3) (four b0 b1 b2 b3)
-  fourth_decides e f g =
-      trail (256 ^ 8) a2 b2 a3 b3 g ∙ trail (256 ^ 16) a1 b1 (pair a2 a3) (pair b2 b3) f ∙ trail (256 ^ 24) a0 b0 (three a1 a2 a3) (three b1 b2 b3) e
-
--- the words that the code has read decide
-module _ (s : Bytes) (at : ℕ) (bytes : AreBytes s) (fits : at + 64 ≤ length s) where
-  abbrev Below : ℕ → ℕ → Type 0
-  Below a b = ltb a b ≡ ltb (number (take 32 (drop at s))) (number (take 32 (drop (at + 32) s)))
-
-  rows_are : ltb (four (word s at) (word s (at + 8)) (word s (at + 16)) (word s (at + 24))) (four (word s (at + 32)) (word s (at + 40)) (word s (at + 48)) (word s (at + 56)))
-      ≡ ltb (number (take 32 (drop at s))) (number (take 32 (drop (at + 32) s)))
-  rows_are =
-      let e : at + 32 + 8 ≡ at + 40 = omega arith in
-      let f : at + 32 + 16 ≡ at + 48 = omega arith in
-      let g : at + 32 + 24 ≡ at + 56 = omega arith in
-      rw (row_words s at (omega arith), row_words s (at + 32) (omega arith), e, f, g)
-
-  w : (k : ℕ) → k + 8 ≤ 64 → Word (word s (at + k))
-  w k h = word_bound s (at + k) bytes (omega arith)
-
-  module _ (a0 b0 : ℕ) (ea0 : a0 ≡ word s at) (eb0 : b0 ≡ word s (at + 32)) where
-    pub first : a0 ≢ b0 → Below a0 b0
-    first n =
-        rw (ea0, eb0)
-        (first_decides _ _ _ _ _ _ _ _ (w 8 (omega arith)) (w 16 (omega arith)) (w 24 (omega arith)) (w 40 (omega arith)) (w 48 (omega arith)) (w 56 (omega arith)) (λ x. n (ea0 ∙ x ∙ sym eb0))
-        ∙ rows_are)
-
-    module _ (e0 : a0 ≡ b0) (a1 b1 : ℕ) (ea1 : a1 ≡ word s (at + 8)) (eb1 : b1 ≡ word s (at + 40)) where
-      pub second : a1 ≢ b1 → Below a1 b1
-      second n =
-          rw (ea1, eb1)
-          (second_decides _ _ _ _ _ _ _ _ (w 16 (omega arith)) (w 24 (omega arith)) (w 48 (omega arith)) (w 56 (omega arith)) (sym ea0 ∙ e0 ∙ eb0) (λ x. n (ea1 ∙ x ∙ sym eb1)) ∙ rows_are)
-
-      module _ (e1 : a1 ≡ b1) (a2 b2 : ℕ) (ea2 : a2 ≡ word s (at + 16)) (eb2 : b2 ≡ word s (at + 48)) where
-        pub third : a2 ≢ b2 → Below a2 b2
-        third n =
-            rw (ea2, eb2)
-            (third_decides _ _ _ _ _ _ _ _ (w 24 (omega arith)) (w 56 (omega arith)) (sym ea0 ∙ e0 ∙ eb0) (sym ea1 ∙ e1 ∙ eb1) (λ x. n (ea2 ∙ x ∙ sym eb2)) ∙ rows_are)
-
-        pub fourth : a2 ≡ b2 → (a3 b3 : ℕ) → a3 ≡ word s (at + 24) → b3 ≡ word s (at + 56) → Below a3 b3
-        fourth e2 a3 b3 ea3 eb3 =
-            rw (ea3, eb3) (fourth_decides _ _ _ _ _ _ _ _ (sym ea0 ∙ e0 ∙ eb0) (sym ea1 ∙ e1 ∙ eb1) (sym ea2 ∙ e2 ∙ eb2) ∙ rows_are)
-
--- ---- whether the rows rise: what is left, above the row at `at`
-
-pub record Climbs (s : Bytes) (at : ℕ) : Type 0 where
-  pub row : at % 32 ≡ 0
-  pub within : at + 32 ≤ length s
-  pub left : rising_from 0 (rows_of s) ≡ rising_from (suc (number (take 32 (drop at s)))) (rows_of (drop (at + 32) s))
-
-pub climbs_none : (s : Bytes) → length s ≡ 0 → true ≡ rising_from 0 (rows_of s)
-unfolding rising_from
-climbs_none s h = sym (ap (rising_from 0) (rows_none s (omega arith)))
-
-pub climbs : (s : Bytes) → length s % 32 ≡ 0 → length s ≢ 0 → Climbs s 0
-unfolding rising_from
-climbs s w n = record {
-  row = refl;
-  within = omega arith;
-  left = ap (rising_from 0) (rows_more s (omega arith)) ∙ ap (λ (b : Bool). b && rising_from (suc (number (take 32 s))) (rows_of (drop 32 s))) (leb-zero (number (take 32 s)));
-}
-
-module _ (s : Bytes) (at : ℕ) (w : length s % 32 ≡ 0) (k : Climbs s at) where
-  pub next_room : at + 32 < length s → at + 64 ≤ length s
-  next_room h = omega (arith, k.row)
-
-  abbrev Rise : Bool → Type 0
-  Rise b = ltb (number (take 32 (drop at s))) (number (take 32 (drop (at + 32) s))) ≡ b
-
-  step : at + 32 < length s → (b : Bool) → Rise b → rising_from 0 (rows_of s) ≡ b && rising_from (suc (number (take 32 (drop (at + 32) s)))) (rows_of (drop (at + 32 + 32) s))
-  unfolding rising_from
-  step h b t =
-      let r = next_room h in
-      k.left
-      ∙ ap (rising_from (suc (number (take 32 (drop at s))))) (rows_next s (at + 32) (omega arith))
-      ∙ ap (λ (x : Bool). x && rising_from (suc (number (take 32 (drop (at + 32) s)))) (rows_of (drop (at + 32 + 32) s))) t
-
-  pub climbs_on : at + 32 < length s → Rise true → Climbs s (at + 32)
-  climbs_on h t = let r = next_room h in record { row = omega (arith, k.row); within = omega arith; left = step h true t }
-
-  pub falls_here : at + 32 < length s → Rise false → false ≡ rising_from 0 (rows_of s)
-  falls_here h t = sym (step h false t)
-
-  pub climbs_end : length s ≤ at + 32 → true ≡ rising_from 0 (rows_of s)
-  unfolding rising_from
-  climbs_end h =
-      sym (k.left
-      ∙ ap (λ (x : Bytes). rising_from (suc (number (take 32 (drop at s)))) (rows_of x)) (drop_of_length-le s {i = at + 32} h)
-      ∙ ap (rising_from (suc (number (take 32 (drop at s))))) (rows_none [] (omega arith)))
-
--- ---- whether the list has a handle: what is left from `at` on
-
-pub record Looks (s key : Bytes) (at : ℕ) : Type 0 where
-  pub row : at % 32 ≡ 0
-  pub within : at ≤ length s
-  pub left : has key (rows_of s) ≡ has key (rows_of (drop at s))
-
-pub looks : (s key : Bytes) → Looks s key 0
-looks s key = record { row = refl; within = omega arith; left = refl }
-
-module _ (s key : Bytes) (at : ℕ) (w : length s % 32 ≡ 0) (k : Looks s key at) where
-  pub row_room : at < length s → at + 32 ≤ length s
-  row_room h = omega (arith, k.row)
-
-  look : at < length s → (b : Bool) → same (take 32 (drop at s)) key ≡ b → has key (rows_of s) ≡ b || has key (rows_of (drop (at + 32) s))
-  unfolding has
-  look h b t = k.left ∙ ap (has key) (rows_next s at (row_room h)) ∙ ap (λ (x : Bool). x || has key (rows_of (drop (at + 32) s))) t
-
-  pub found_here : at < length s → same (take 32 (drop at s)) key ≡ true → true ≡ has key (rows_of s)
-  found_here h t = sym (look h true t)
-
-  pub looks_on : at < length s → same (take 32 (drop at s)) key ≡ false → Looks s key (at + 32)
-  looks_on h t = record { row = omega (arith, k.row); within = row_room h; left = look h false t }
-
-  pub looks_end : length s ≤ at → false ≡ has key (rows_of s)
-  unfolding has
-  looks_end h =
-      sym (k.left ∙ ap (λ (x : Bytes). has key (rows_of x)) (drop_of_length-le s {i = at} h) ∙ ap (has key) (rows_none [] (omega arith)))
+pub sorted_rises : (s : Bytes) (r : Bool) → AreBytes s → IsAllAdjacentAnswer (λ x y t. t ≡ below x y) (rows_of s) r → r ≡ rising_from 0 (rows_of s)
+sorted_rises s r a h = adjacent (rows_of s) r h ∙ rises (rows_of s) (rows_bytes_lem (length s / 32) s (omega arith) a)

@@ -1,32 +1,29 @@
 -- The number of what asking for a handle comes to, and back: telling loses nothing.
-use Rattle.std.specs.Prelude.{◌≡◌, refl, cond, ℕ, eqb}
-use Rattle.std.proofs.Common.{ap}
-use Rattle.lists.specs.Bytes.{Bytes}
+use Rattle.std.specs.Prelude.{◌≡◌, refl, cond, ℕ, eqb, Result, Ok, Err}
+use Rattle.lists.specs.Bytes.{Bytes, zeros}
 use Rattle.hash.specs.Hash.{hash_of}
 use Rattle.rules.specs.Refusals.{done, too_long}
 use Rattle.rules.specs.Calls.{Found, found}
 use Rattle.rules.proofs.OneOutcome.{One, one_outcome}
 use Rattle.dictionary.specs.Calls.{handle_call}
-use Rattle.handles.specs.declared.key.HandleAnswer.{HandleAnswer}
-use Rattle.handles.specs.declared.key.HandleAnswer.TheVariants.{Done, KeyTooLong}
-use Rattle.handles.specs.declared.key.HandleRead.{HandleRead}
+use Rattle.hash.specs.declared.Digest.{Digest}
+use Rattle.handles.specs.declared.key.KeyTooLong.{KeyTooLong}
 
-abbrev pub handle_number : HandleAnswer → ℕ
-handle_number Done = done
-handle_number KeyTooLong = too_long
+abbrev pub handle_number : Result Digest KeyTooLong → ℕ
+handle_number (Ok d) = done
+handle_number (Err e) = too_long
 
-abbrev pub handle_told : HandleRead → Found
-handle_told r = found (handle_number r.answer) r.digest.bytes
+-- beside a refusal the digest is zeros
+abbrev pub handle_told : Result Digest KeyTooLong → Found
+handle_told (Ok d) = found done d.bytes
+handle_told (Err e) = found too_long zeros
 
-abbrev pub handle_from : Found → HandleRead
-handle_from f = record { answer = cond (eqb f.number done) Done KeyTooLong; digest = record { bytes = f.digest } }
+abbrev pub handle_from : Found → Result Digest KeyTooLong
+handle_from f = cond (eqb f.number done) (Ok (record { bytes = f.digest })) (Err record {})
 
-pub handle_back : (r : HandleRead) → handle_from (handle_told r) ≡ r
-handle_back r = ap (λ (a : HandleAnswer). record { answer = a; digest = r.digest }) (back r.answer)
-  where
-    back : (a : HandleAnswer) → cond (eqb (handle_number a) done) Done KeyTooLong ≡ a
-    back Done = refl
-    back KeyTooLong = refl
+pub handle_back : (r : Result Digest KeyTooLong) → handle_from (handle_told r) ≡ r
+handle_back (Ok d) = refl
+handle_back (Err e) = refl
 
 -- two answers that meet the contract are the same
 pub handle_one : (key : Bytes) → One handle_told (handle_call hash_of key)

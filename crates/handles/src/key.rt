@@ -11,20 +11,12 @@ use hash::Digest;
 // The most bytes of a key: those of an entry.
 pub const KEY_LIMIT: usize = 4_096;
 
-// What asking for a handle comes to; beside a refusal the digest is zeros.
-#[derive(Clone, Copy)]
-pub enum HandleAnswer {
-    Done,
-    KeyTooLong,
-}
-
-#[derive(Clone, Copy)]
-pub struct HandleRead {
-    pub answer: HandleAnswer,
-    pub digest: Digest,
-}
+// The key has more than 4,096 bytes.
+#[derive(Clone, Copy, Debug, PartialEq, Eq)]
+pub struct KeyTooLong;
 
 // The handle of a key that is not too long.
+#[tactic(auto, using(hash::specs::Joined::joined_short))]
 pub fn handle_for(key: &[u8]) -> Digest
     requires { length key.now ≤ entry_limit }
     ensures { result.bytes ≡ handle hash_of key.now }
@@ -33,17 +25,12 @@ pub fn handle_for(key: &[u8]) -> Digest
 }
 
 // The handle of a key.
-pub fn handle_of(key: &[u8]) -> HandleRead
+#[tactic(auto, unfolding(dictionary::specs::Calls::handle_call))]
+pub fn handle_of(key: &[u8]) -> Result<Digest, KeyTooLong>
     ensures { handle_told result ≡ handle_call hash_of key.now }
 {
     if KEY_LIMIT < key.len() {
-        return HandleRead {
-            answer: HandleAnswer::KeyTooLong,
-            digest: Digest { bytes: [0u8; 32] },
-        };
+        return Err(KeyTooLong);
     }
-    HandleRead {
-        answer: HandleAnswer::Done,
-        digest: handle_for(key),
-    }
+    Ok(handle_for(key))
 }

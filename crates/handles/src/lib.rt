@@ -4,5 +4,5 @@
 mod key; // a key's handle
 mod list; // a lent list: whether it may be used, and whether it has a handle
 
-pub use key::{HandleAnswer, HandleRead, KEY_LIMIT, handle_for, handle_of};
-pub use list::{has_handle, listed};
+pub use key::{KEY_LIMIT, KeyTooLong, handle_for, handle_of};
+pub use list::{has_handle, listed, rows};

@@ -2,13 +2,21 @@
 use mathlib.Core.Path.{◌≡◌, refl, sym, ap, ap₂, ◌∙◌}
 use mathlib.Core.Bool.{Bool, true, false, cond, ◌&&◌, ◌||◌}
 use mathlib.Core.List.{List, [], ◌∷◌, ◌++◌, append-nil}
-use Prim.Native.Nat.{ℕ, zero, suc, ◌+◌, ◌*◌, ◌/◌, ◌%◌, ◌^◌, ◌≤◌, ◌<◌}
-use native.Mathlib.Nat.{div-add-mod', mul-mod_left}
+use Prim.Native.Nat.{ℕ, suc, min, ◌+◌, ◌-◌, ◌*◌, ◌/◌, ◌%◌, ◌^◌, ◌≤◌, ◌<◌}
+use native.Mathlib.Nat.{div-add-mod', mul-mod_left, zero-add, div-one}
 use native.Mathlib.Numerals.{add-one}
 use native.Mathlib.Omega.{arith}
 use lib.ListN.{length, get_or, set, take, drop, length-map, get_or-map, drop_of_length-le}
 use lib.Seq.{drop-cons, take_all, set_split, take-suc-set, drop-set-lt, append_snoc}
 use borrow.Author.Tests.{eq-eqb, ne_eqb}
+use lib.Dec.{eqb}
+use lib.Pointwise.{pointwise}
+use Rattle.std.specs.List.{enumerate_from, list_all}
+use Rattle.std.proofs.lemmas.List.{map-set, take-map, drop-map, map-append, get_or_default, get_or-drop}
+use Rattle.std.proofs.lemmas.List.FromFn.{length-enumerate_from, get_or-enumerate_from}
+use Rattle.std.proofs.Common.{length-drop}
+use native.Mathlib.Decide.{dec_lt}
+use borrow.Rule.Slice.PartMut.{put_mid}
 use Rattle.lists.specs.Bytes.{Bytes, same, zeros}
 use Rattle.lists.specs.Same.{same_swap}
 use Rattle.hash.specs.declared.Digest.{Digest}
@@ -18,10 +26,18 @@ use Rattle.rules.specs.Messages.{row}
 use Rattle.rules.specs.Held.{odd, free_zero}
 use Rattle.rules.specs.Checking.{agrees, off_row, carried}
 use Rattle.rules.proofs.Hops.{tz_max}
-use Rattle.rules.proofs.Parity.{is_odd, half_pow}
-use Rattle.held.specs.declared.Rows.TheVariants.{Agree, Differ}
+use Rattle.rules.proofs.Parity.{is_odd, half_pow, halve}
+use Rattle.std.specs.Prelude.{None, Some}
 use Rattle.held.specs.Holding.{bytes_of, rows_of}
 use Rattle.held.specs.Rows.{rows_say}
+
+-- ---- digests, as code compares them
+
+pub same_tests : (a b : Bytes) → pointwise eqb a b ≡ same a b
+same_tests [] [] = refl
+same_tests [] (y ∷ ys) = refl
+same_tests (x ∷ xs) [] = refl
+same_tests (x ∷ xs) (y ∷ ys) = ap (λ (t : Bool). eqb x y && t) (same_tests xs ys)
 
 -- ---- the lowest bit, as code tests it
 
@@ -46,10 +62,37 @@ row_of rows c = get_or-map bytes_of rows c no_digest
 pub rows_long : (rows : List Digest) → length rows ≡ v1.levels → length (rows_of rows) ≡ v1.levels
 rows_long rows e = length-map rows bytes_of ∙ e
 
-pub rows_set : (rows : List Digest) (c : ℕ) (d : Digest) → rows_of (set rows c d) ≡ set (rows_of rows) c (bytes_of d)
-rows_set [] c d = refl
-rows_set (r ∷ rows) zero d = refl
-rows_set (r ∷ rows) (suc c) d = ap (λ (l : List Bytes). bytes_of r ∷ l) (rows_set rows c d)
+-- Whether a row may stand as it is, with its number: where its bit of the count is 0, it is zero.
+abbrev pub stands : ℕ → ℕ × Digest → Bool
+stands n x = odd (n / 2 ^ x.0) || same x.1.bytes zeros
+
+stand_from : (n l : ℕ) (rows : List Digest) → list_all (stands n) (enumerate_from l rows) ≡ free_zero (n / 2 ^ l) (rows_of rows)
+unfolding free_zero
+stand_from n l [] = refl
+stand_from n l (d ∷ rows) =
+    ap (λ (t : Bool). stands n (l, d) && t)
+    (stand_from n (l + 1) rows ∙ ap (λ (q : ℕ). free_zero q (rows_of rows)) (ap (λ (m : ℕ). n / 2 ^ m) (add-one l) ∙ halve n l))
+
+pub all_stand : (n : ℕ) (rows : List Digest) → list_all (stands n) (enumerate_from 0 rows) ≡ free_zero n (rows_of rows)
+all_stand n rows = stand_from n 0 rows ∙ ap (λ (q : ℕ). free_zero q (rows_of rows)) (div-one n)
+
+-- the k-th row from a level up, with its number, as `iter().enumerate().skip(level)` gives it
+pub at_row : (rows : List Digest) (level k c : ℕ) (d : Digest)
+    → (k < length (drop level (enumerate_from 0 rows))) × ((c, d) ≡ get_or (drop level (enumerate_from 0 rows)) k (c, d))
+    → (level + k < length rows) × (c ≡ level + k) × (d ≡ get_or rows (level + k) no_digest)
+at_row rows level k c d h =
+    let all = enumerate_from 0 rows in
+    let w : level + k < length rows = omega (arith, h.0, length-drop level all, length-enumerate_from 0 rows) in
+    let e : (c, d) ≡ (0 + (level + k), get_or rows (level + k) d) =
+    h.1 ∙ get_or-drop level all k (c, d) ∙ get_or-enumerate_from 0 rows (level + k) (c, d) (omega (arith, w, length-enumerate_from 0 rows)) in (
+      w,
+      ap (λ (x : ℕ × Digest). x.0) e ∙ zero-add _,
+      ap (λ (x : ℕ × Digest). x.1) e ∙ get_or_default rows (level + k) d no_digest w,
+    )
+
+-- past the last of them
+pub past_rows : (rows : List Digest) (level k : ℕ) → k ≡ length (drop level (enumerate_from 0 rows)) → length rows ≤ level + k
+past_rows rows level k e = omega (arith, e, length-drop level (enumerate_from 0 rows), length-enumerate_from 0 rows)
 
 -- ---- a turn
 
@@ -61,24 +104,20 @@ module _ (rs : List Bytes) (c : ℕ) (b : c < length rs) where
   first : drop c rs ≡ get_or rs c [] ∷ drop (c + 1) rs
   first = rw add-one (drop-cons rs c [] b)
 
-  pub free_turn : (q : ℕ) → free_zero q (drop c rs) ≡ ((odd q || same (get_or rs c []) zeros) && free_zero (q / 2) (drop (c + 1) rs))
-  unfolding free_zero
-  free_turn q = rw first
-
-  pub say_free : (q : ℕ) (x : Bytes) → odd q ≡ false → rows_say c q (drop c rs) x ≡ Agree
+  pub say_free : (q : ℕ) (x : Bytes) → odd q ≡ false → rows_say c q (drop c rs) x ≡ None
   unfolding rows_say agrees
   say_free q x e = rw (first, e)
 
   say_used : (q : ℕ) (x : Bytes) (b : Bool) → odd q ≡ true → same (get_or rs c []) (row v1 x (suc (suc c))) ≡ b
-      → rows_say c q (drop c rs) x ≡ cond b (rows_say (c + 1) (q / 2) (drop (c + 1) rs) x) (Differ c)
+      → rows_say c q (drop c rs) x ≡ cond b (rows_say (c + 1) (q / 2) (drop (c + 1) rs) x) (Some c)
   unfolding rows_say agrees off_row
   say_used q x b e d = rw (first, e, d, add-one) (go b)
     where
       rest : List Bytes
       rest = drop (suc c) rs
 
-      go : (t : Bool) → cond (t && agrees v1 (suc c) (q / 2) rest x) Agree (Differ (cond t (off_row v1 (suc c) rest x) c))
-          ≡ cond t (cond (agrees v1 (suc c) (q / 2) rest x) Agree (Differ (off_row v1 (suc c) rest x))) (Differ c)
+      go : (t : Bool) → cond (t && agrees v1 (suc c) (q / 2) rest x) None (Some (cond t (off_row v1 (suc c) rest x) c))
+          ≡ cond t (cond (agrees v1 (suc c) (q / 2) rest x) None (Some (off_row v1 (suc c) rest x))) (Some c)
       go true = refl
       go false = refl
 
@@ -97,7 +136,7 @@ module _ (rs : List Bytes) (c : ℕ) (b : c < length rs) where
 -- with row c in use, its digest compared with the link of level c + 1
 pub say_turn : (rows : List Digest) (c q : ℕ) (x : Bytes) (b : Bool) → c < length (rows_of rows) → odd q ≡ true
     → same (row v1 x (c + 2)) (bytes_of (get_or rows c no_digest)) ≡ b
-    → rows_say c q (drop c (rows_of rows)) x ≡ cond b (rows_say (c + 1) (q / 2) (drop (c + 1) (rows_of rows)) x) (Differ c)
+    → rows_say c q (drop c (rows_of rows)) x ≡ cond b (rows_say (c + 1) (q / 2) (drop (c + 1) (rows_of rows)) x) (Some c)
 say_turn rows c q x b l e t =
     let n : c + 2 ≡ suc (suc c) = omega arith in
     say_used (rows_of rows) c l q x b e
@@ -107,7 +146,34 @@ pub carry_turn : (rows : List Digest) (c q : ℕ) (t : Bytes) → c < length (ro
     → carried_from c q (rows_of rows) t ≡ carried_from (c + 1) (q / 2) (rows_of (set rows c zero_digest)) (bytes_of (get_or rows c no_digest))
 carry_turn rows c q t b e =
     carry_on (rows_of rows) c b q t e
-    ∙ ap₂ (λ (l : List Bytes) (r : Bytes). carried_from (c + 1) (q / 2) l r) (sym (rows_set rows c zero_digest)) (row_of rows c)
+    ∙ ap₂ (λ (l : List Bytes) (r : Bytes). carried_from (c + 1) (q / 2) l r) (sym (map-set bytes_of rows c zero_digest)) (row_of rows c)
+
+-- the rows from a level up, as a part of all of them that begins at the lesser of the level and their number
+module _ (rows : List Digest) (level from : ℕ) (all : length rows ≡ v1.levels) (lesser : from ≡ min v1.levels level) where
+  long : length (rows_of rows) ≡ v1.levels
+  long = rows_long rows all
+
+  pub upper : rows_of (take (v1.levels - from) (drop from rows)) ≡ drop level (rows_of rows)
+  upper =
+      ap rows_of (take_all (v1.levels - from) (drop from rows) (omega (arith, all, length-drop from rows)))
+      ∙ sym (drop-map bytes_of from rows)
+      ∙ below (dec_lt level v1.levels)
+    where
+      below : Dec (level < v1.levels) → drop from (rows_of rows) ≡ drop level (rows_of rows)
+      below (yes b) = let e : from ≡ level = omega arith in rw e
+      below (no b) = drop_of_length-le (rows_of rows) {i = from} (omega (arith, long)) ∙ sym (drop_of_length-le (rows_of rows) {i = level} (omega (arith, long)))
+
+  pub spliced : (part : List Digest) → rows_of (put_mid from (v1.levels - from) rows part) ≡ take level (rows_of rows) ++ rows_of part
+  spliced part =
+      let none : drop (v1.levels - from) (drop from rows) ≡ [] = drop_of_length-le (drop from rows) {i = v1.levels - from} (omega (arith, all, length-drop from rows)) in
+      ap (λ (rest : List Digest). rows_of (take from rows ++ (part ++ rest))) none
+      ∙ ap (λ (l : List Digest). rows_of (take from rows ++ l)) (append-nil part)
+      ∙ map-append bytes_of (take from rows) part
+      ∙ ap (λ (l : List Bytes). l ++ rows_of part) (sym (take-map bytes_of from rows) ∙ below (dec_lt level v1.levels))
+    where
+      below : Dec (level < v1.levels) → take from (rows_of rows) ≡ take level (rows_of rows)
+      below (yes b) = let e : from ≡ level = omega arith in rw e
+      below (no b) = take_all from (rows_of rows) (omega (arith, long)) ∙ sym (take_all level (rows_of rows) (omega (arith, long)))
 
 -- ---- the link of the next level
 
@@ -129,11 +195,7 @@ module _ (rs : List Bytes) (c : ℕ) (b : length rs ≤ c) where
   none : drop c rs ≡ []
   none = drop_of_length-le rs {i = c} b
 
-  pub free_end : (q : ℕ) → free_zero q (drop c rs) ≡ true
-  unfolding free_zero
-  free_end q = rw none
-
-  pub say_end : (q : ℕ) (x : Bytes) → rows_say c q (drop c rs) x ≡ Agree
+  pub say_end : (q : ℕ) (x : Bytes) → rows_say c q (drop c rs) x ≡ None
   unfolding rows_say agrees
   say_end q x = rw none
 

@@ -7,16 +7,20 @@ ghost use Rattle.lists.specs.Bytes.{same, zeros};
 ghost use Rattle.hash.specs.Hash.{hash_of};
 ghost use Rattle.rules.specs.Numbers.{v1};
 ghost use Rattle.rules.specs.Messages.{size};
-ghost use Rattle.rules.specs.Held.{odd, free_zero, held_start, held_zeros, is_in_order};
+ghost use Rattle.rules.specs.Held.{odd, no_rows, free_zero, held_start, held_zeros, is_in_order};
 ghost use Rattle.rules.specs.Checking.{rows_after};
 ghost use Rattle.held.specs.Holding.{rows_of, holds};
 ghost use Rattle.held.specs.Rows.{rows_say};
 
 use hash::Digest;
 use path::Length;
+use std::mem;
 
 // The rows of a basis, one for each level.
 pub const LEVELS: usize = path::LEVELS;
+
+// What a row that is not in use is.
+pub const FREE: Digest = Digest { bytes: [0u8; 32] };
 
 // A log number, the count of its elements, the digest of the last, and the basis: a row for each level.
 #[derive(Clone, Copy)]
@@ -27,73 +31,53 @@ pub struct Held {
     pub rows: [Digest; LEVELS],
 }
 
+// A state at count 0: no row is in use.
+fn at_zero(log: u64, digest: Digest) -> Held
+    ensures { holds result ≡ record { log = log; count = 0; digest = digest.bytes; rows = no_rows v1 } }
+{
+    Held {
+        log,
+        count: Length(0),
+        digest,
+        rows: [FREE; LEVELS],
+    }
+}
+
 // The state at 0 of a log.
 pub fn start(log: u64) -> Held
     ensures { holds result ≡ held_start hash_of v1 log }
 {
-    let digest = messages::start_digest(log);
-    let zero = Digest { bytes: [0u8; 32] };
-    Held {
-        log: log,
-        count: Length(0),
-        digest: digest,
-        rows: [zero; LEVELS],
-    }
+    at_zero(log, messages::start_digest(log))
 }
 
 // The state that stands beside a refusal where no state could be made.
 pub fn all_zeros() -> Held
     ensures { holds result ≡ held_zeros v1 }
 {
-    let zero = Digest { bytes: [0u8; 32] };
-    Held {
-        log: 0,
-        count: Length(0),
-        digest: zero,
-        rows: [zero; LEVELS],
-    }
-}
-
-// Whether a row is zero.
-fn is_zero(row: Digest) -> bool
-    ensures { result ≡ same row.bytes zeros }
-{
-    let bytes = row.bytes;
-    let zeros = [0u8; 32];
-    lists::same(&bytes, &zeros)
+    at_zero(0, FREE)
 }
 
 // Whether a row may stand as it is: the lowest bit of q tells if it is in use, and a free row is zero.
 fn may_stand(q: u64, row: Digest) -> bool
     ensures { result ≡ (odd q || same row.bytes zeros) }
 {
-    if q % 2 == 1 {
-        return true;
-    }
-    is_zero(row)
+    q % 2 == 1 || row == FREE
 }
 
 // Whether the free rows are zero.
-fn has_free_rows_zero(h: Held) -> bool
-    ensures { result ≡ free_zero h.count.0 (rows_of h.rows) }
+fn has_free_rows_zero(h: &Held) -> bool
+    ensures { result ≡ free_zero h.now.count.0 (rows_of h.now.rows) }
 {
-    let rows = h.rows;
-    let mut q = h.count.0;
-    let mut c: usize = 0;
-    while c < LEVELS {
-        let row = rows[c];
-        if !may_stand(q, row) {
-            return false;
-        }
-        q /= 2;
-        c += 1;
-    }
-    true
+    h.rows
+        .iter()
+        .enumerate()
+        .all(|(c, row)| may_stand(h.count.0 >> c, *row))
 }
 
 // Whether a state is in order; what is not is refused with 2.
-pub fn is_in_order(h: Held) -> bool
-    ensures { result ≡ is_in_order hash_of v1 (holds h) }
+#[tactic(auto, using(crate::proofs::Turns::same_tests), unfolding(rules::specs::Held::is_in_order))]
+pub fn is_in_order(h: &Held) -> bool
+    ensures { result ≡ is_in_order hash_of v1 (holds h.now) }
 {
     if path::LIMIT < h.count.0 {
         return false;
@@ -101,62 +85,45 @@ pub fn is_in_order(h: Held) -> bool
     if !has_free_rows_zero(h) {
         return false;
     }
-    if 1 <= h.count.0 {
-        return true;
-    }
-    messages::same_digest(h.digest, messages::start_digest(h.log))
+    1 <= h.count.0 || h.digest == messages::start_digest(h.log)
 }
 
-// What the rows say of a hop.
-#[derive(Clone, Copy)]
-pub enum Rows {
-    Agree,
-    Differ { row: u64 },
-}
-
-// From the level hopped upward, lowest first, each row in use against the link of the next level in the component reached.
-pub fn compare_rows(h: Held, level: u32, component: &[u8]) -> Rows
-    requires { (level < 64) × (h.count.0 % 2 ^ level ≡ 0) × (length component.now ≡ size v1 (h.count.0 + 2 ^ level)) }
-    ensures { result ≡ rows_say level (h.count.0 / 2 ^ level) (drop level (rows_of h.rows)) component.now }
+// What the rows say of a hop of this level: from it upward, lowest first, each row in use against the link of the next level in the component reached.
+// Where they don't agree, the lowest row that differs.
+pub fn compare_rows(h: &Held, level: u32, component: &[u8]) -> Option<u64>
+    requires { (level < 64) × (h.now.count.0 % 2 ^ level ≡ 0) × (length component.now ≡ size v1 (h.now.count.0 + 2 ^ level)) }
+    ensures { result ≡ rows_say level (h.now.count.0 / 2 ^ level) (drop level (rows_of h.now.rows)) component.now }
 {
-    let rows = h.rows;
     let mut q = h.count.0 >> level;
-    let mut c = level as usize;
-    while c < LEVELS {
+    for (c, row) in h.rows.iter().enumerate().skip(level as usize) {
         if q % 2 == 0 {
-            return Rows::Agree;
+            return None;
         }
-        let row = rows[c];
-        if !messages::row_is(component, c + 2, row) {
-            return Rows::Differ { row: c as u64 };
+        if !messages::row_is(component, c + 2, *row) {
+            return Some(c as u64);
         }
         q /= 2;
-        c += 1;
     }
-    Rows::Agree
+    None
 }
 
 // The rows after a good hop of this level: its row, if free, takes the digest held; else the last value in use moves to the first free row, and the
 // rows before that become zero.
-pub fn carry(h: Held, level: u32) -> [Digest; LEVELS]
+pub fn carry(h: &Held, level: u32) -> [Digest; LEVELS]
     requires { level < 64 }
-    ensures { rows_of result ≡ rows_after level (holds h) }
+    ensures { rows_of result ≡ rows_after level (holds h.now) }
 {
     let mut rows = h.rows;
     let mut moving = h.digest;
     let mut bits = h.count.0 >> level;
-    let mut c = level as usize;
-    while c < LEVELS {
+    let from = LEVELS.min(level as usize);
+    for row in &mut rows[from..] {
         if bits % 2 == 0 {
-            rows[c] = moving;
+            *row = moving;
             return rows;
         }
-        let row = rows[c];
-        let zero = Digest { bytes: [0u8; 32] };
-        rows[c] = zero;
-        moving = row;
+        moving = mem::replace(row, FREE);
         bits /= 2;
-        c += 1;
     }
     rows
 }

@@ -13,51 +13,38 @@ use hash::Digest;
 const BLOCK: usize = 64;
 
 // The most bytes that the hash takes.
-const LIMIT: usize = 65536;
+const LIMIT: usize = 65_536;
 
 const INNER: u8 = 0x36;
 
 const OUTER: u8 = 0x5c;
 
-#[derive(Clone, Copy)]
-pub enum Coding {
-    Done,
-    TooLong,
-}
-
-// The code of a message, of 32 zero bytes beside a refusal.
-#[derive(Clone, Copy)]
-pub struct Coded {
-    pub coding: Coding,
-    pub digest: Digest,
-}
+// The one refusal: the hash does not take so long a key, or so long a message behind a block.
+#[derive(Clone, Copy, Debug, PartialEq, Eq)]
+pub struct TooLong;
 
 // The key as one block: hashed first where it is longer, and filled with zeros.
-fn key_block(key: &[u8]) -> [u8; 64]
+fn key_block(key: &[u8]) -> [u8; BLOCK]
     requires { length key.now ≤ key_limit }
     ensures { result ≡ Rattle.seals.specs.Hmac.key_block hash_of key.now }
 {
-    let mut block = [0u8; BLOCK];
+    let mut block = [0; BLOCK];
     if BLOCK < key.len() {
-        let short = hash::joined(key, b"").bytes;
-        lists::put(&mut block, 0, &short, 32);
-        return block;
+        block[..32].copy_from_slice(&hash::joined(key, b"").bytes);
+    } else {
+        block[..key.len()].copy_from_slice(key);
     }
-    lists::put(&mut block, 0, key, key.len());
     block
 }
 
-// The block with each byte XORed with one byte.
-fn pad(block: [u8; 64], with: u8) -> [u8; 64]
+// The block with each byte XORed with one byte. It is changed where it lies: `map` would hold the key a second time.
+fn pad(mut block: [u8; BLOCK], with: u8) -> [u8; BLOCK]
     ensures { result ≡ Rattle.seals.specs.Hmac.xored with block }
 {
-    let mut out = block;
-    let mut i: usize = 0;
-    while i < BLOCK {
-        out[i] = out[i] ^ with;
-        i += 1;
+    for byte in &mut block {
+        *byte ^= with;
     }
-    out
+    block
 }
 
 // The code of a message that is within the limits.
@@ -66,31 +53,16 @@ fn code(key: &[u8], message: &[u8]) -> Digest
     ensures { result.bytes ≡ hmac_of hash_of key.now message.now }
 {
     let block = key_block(key);
-    let first = pad(block, INNER);
-    let second = pad(block, OUTER);
-    let inside = hash::joined(&first, message).bytes;
-    hash::joined(&second, &inside)
+    let inside = hash::joined(&pad(block, INNER), message);
+    hash::joined(&pad(block, OUTER), &inside.bytes)
 }
 
 // The code of a message under a key. A key over 65,536 bytes is refused, and a message that does not fit the hash behind one block.
-pub fn mac(key: &[u8], message: &[u8]) -> Coded
+pub fn mac(key: &[u8], message: &[u8]) -> Result<Digest, TooLong>
     ensures { coded_told result ≡ mac_call hash_of key.now message.now }
 {
-    let zeros = Digest { bytes: [0u8; 32] };
-    if LIMIT < key.len() {
-        return Coded {
-            coding: Coding::TooLong,
-            digest: zeros,
-        };
+    if LIMIT < key.len() || LIMIT - BLOCK < message.len() {
+        return Err(TooLong);
     }
-    if LIMIT - BLOCK < message.len() {
-        return Coded {
-            coding: Coding::TooLong,
-            digest: zeros,
-        };
-    }
-    Coded {
-        coding: Coding::Done,
-        digest: code(key, message),
-    }
+    Ok(code(key, message))
 }

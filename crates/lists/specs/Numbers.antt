@@ -1,9 +1,11 @@
--- Big-endian numbers: the length of `be`, and both ways round, number to bytes to number and bytes to number to bytes.
+-- Big-endian numbers: the length of `be`, and both ways round, number to bytes to number and bytes to number to bytes; and that eight bytes are read as
+-- the number that they are.
 use Rattle.std.specs.Prelude.{◌≡◌, refl, [], ◌∷◌, ◌++◌, ℕ, zero, suc, ◌+◌, ◌*◌, ◌/◌, ◌%◌, ◌^◌, ◌≤◌, ◌<◌, length, get_or, take, drop}
 use Rattle.std.proofs.Common.{sym, ap, ap₂, ◌∙◌, pow-suc, div-one, div-add-mod', arith, length-take, get_or-take, get_or-drop}
 use Rattle.std.proofs.Math.Nat.{div-eq_of_lt, div-div-eq-div-mul}
 use Rattle.std.proofs.Math.Decide.{dec_le}
 use Rattle.std.proofs.Math.ListN.{get_or-eq_default}
+use Rattle.std.specs.Int.{w64, from_be_bytes}
 use Rattle.lists.specs.Bytes.{Bytes, AreBytes, be, number_from, number}
 
 pub be_length : (k n : ℕ) → length (be k n) ≡ k
@@ -66,3 +68,18 @@ part_bytes s at n a i = go (dec_le n i)
     go : Dec (n ≤ i) → get_or (take n (drop at s)) i 0 < 256
     go (yes h) = let past = get_or-eq_default (take n (drop at s)) 0 {n = i} (omega (arith, length-take n (drop at s))) in omega arith
     go (no h) = rw (get_or-take n (drop at s) i 0 (omega arith), get_or-drop at s i 0) (a (at + i))
+
+-- ---- `from_be_bytes` of eight bytes is their number
+
+pub eight : (b : Bytes) → length b ≡ 8 → from_be_bytes w64 b ≡ number b
+unfolding number_from
+eight [] e = absurd (omega arith)
+eight (a ∷ []) e = absurd (omega arith)
+eight (a ∷ b ∷ []) e = absurd (omega arith)
+eight (a ∷ b ∷ c ∷ []) e = absurd (omega arith)
+eight (a ∷ b ∷ c ∷ d ∷ []) e = absurd (omega arith)
+eight (a ∷ b ∷ c ∷ d ∷ f ∷ []) e = absurd (omega arith)
+eight (a ∷ b ∷ c ∷ d ∷ f ∷ g ∷ []) e = absurd (omega arith)
+eight (a ∷ b ∷ c ∷ d ∷ f ∷ g ∷ h ∷ []) e = absurd (omega arith)
+eight (a ∷ b ∷ c ∷ d ∷ f ∷ g ∷ h ∷ i ∷ []) e = omega arith
+eight (a ∷ b ∷ c ∷ d ∷ f ∷ g ∷ h ∷ i ∷ j ∷ k) e = absurd (omega arith)

@@ -1,6 +1,6 @@
 -- A proof from the bottom up: the node at each depth on the way, from the siblings below it.
-use Rattle.std.specs.Prelude.{◌≡◌, refl, List, [], ◌∷◌, ℕ, zero, suc, ◌-◌, ◌*◌, ◌/◌, ◌%◌, ◌≤◌, ◌<◌, length, take, drop}
-use Rattle.std.proofs.Common.{sym, ap, ap₂, ◌∙◌, arith, drop_of_length-le}
+use Rattle.std.specs.Prelude.{◌≡◌, refl, List, [], ◌∷◌, ℕ, zero, suc, ◌+◌, ◌-◌, ◌*◌, ◌/◌, ◌%◌, ◌≤◌, ◌<◌, length, get_or, take, drop}
+use Rattle.std.proofs.Common.{sym, ap, ap₂, ◌∙◌, arith, drop_of_length-le, get_or-drop}
 use Rattle.lists.specs.Bytes.{Bytes}
 use Rattle.hash.specs.Hash.{hash_of}
 use Rattle.dictionary.specs.Handles.{rows_of}
@@ -23,6 +23,11 @@ node_at k p b d = climbed hash_of (256 - d) k (drop d (rows_of p)) b
 -- a sibling, and those below it
 pub row_next : (p : Bytes) (d : ℕ) → d < depth_of p → drop d (rows_of p) ≡ take 32 (drop (32 * d) p) ∷ drop (suc d) (rows_of p)
 row_next p d h = rows_at p d (omega arith)
+
+pub row_got : (p : Bytes) (d : ℕ) (x : Bytes) → d < depth_of p → get_or (rows_of p) d x ≡ take 32 (drop (32 * d) p)
+row_got p d x h =
+    let e : d ≡ d + 0 = omega arith in
+    ap (λ (n : ℕ). get_or (rows_of p) n x) e ∙ sym (get_or-drop d (rows_of p) 0 x) ∙ ap (λ (l : List Bytes). get_or l 0 x) (row_next p d h)
 
 pub at_bottom : (k p b : Bytes) → b ≡ node_at k p b (depth_of p)
 unfolding climbed

@@ -4,23 +4,24 @@
 
 ghost use Rattle.std.specs.Prelude.{◌≡◌, ◌≤◌, length, take};
 
-use audit::Audited;
+use audit::AuditError;
+use path::Length;
 use std::io;
 use std::io::Read;
 
-fn line(rt: &impl Print, word: &str, n: u64) -> io::Result<()> {
-    println!(rt; "{word}{n}")
-}
+// The most bytes of a store that is read.
+const MOST: usize = 65_536;
 
-fn report(rt: &impl Print, verdict: Audited) -> io::Result<()> {
+fn report(rt: &impl Print, verdict: Result<Length, AuditError>) -> io::Result<()> {
     match verdict {
-        Audited::Sound(n) => line(rt, "sound ", n.0),
-        Audited::Wrong(j) => line(rt, "wrong ", j.0),
-        Audited::Damaged => line(rt, "refused ", 1),
+        Ok(n) => println!(rt; "sound {}", n.0),
+        Err(AuditError::Wrong(j)) => println!(rt; "wrong {}", j.0),
+        Err(AuditError::Damaged) => println!(rt; "refused 1"),
     }
 }
 
-// Reads until buf is full, the input ends or a read fails, and answers how many bytes it put at the start of buf.
+// Reads until buf is full, the input ends or a read fails, and answers how many bytes it put at the start of buf. A turn goes on by as many bytes as
+// a read gave, which no range does: so it is a `while`.
 fn read_full(input: &mut impl Read, buf: &mut [u8]) -> usize
     ensures in_bounds { result ≤ length buf.new }
     ensures prefix { result ≡ length (take result buf.new) }
@@ -43,10 +44,10 @@ fn is_more(input: &mut impl Read) -> bool {
 
 // Fails only where the line can't be written.
 fn main(rt: HostRuntime) -> io::Result<()> {
-    let mut buffer = [0u8; 65536];
+    let mut buffer = [0u8; MOST];
     let mut input = rt.reader();
     let n = read_full(&mut input, &mut buffer);
-    if n == 65536 && is_more(&mut input) {
+    if n == MOST && is_more(&mut input) {
         return println!(rt; "too long");
     }
     report(&rt, audit::audit(&buffer[..n]))

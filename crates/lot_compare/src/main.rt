@@ -4,26 +4,15 @@
 // contract can say.
 #![tactic(auto)]
 
-ghost use Rattle.std.specs.Prelude.{◌≡◌, ◌≤◌, length, take};
+ghost use Rattle.std.specs.Prelude.{◌≡◌, ◌≤◌, length, take, IfOk, IfSome};
 
 use std::env::{Env, FillError};
 use std::fs::Files;
 use std::io::Read;
 use std::{fs, io, str};
 
-// What reading a file comes to: whether each read was good, and the bytes that came. None count where a read failed.
-#[derive(Clone, Copy)]
-struct Taken {
-    good: bool,
-    size: usize,
-}
-
 // One byte more than a file may have, so that a longer one shows by filling it.
-fn space() -> [u8; 32769]
-    ensures { 32769 ≡ length result }
-{
-    [0; 32769]
-}
+const SPACE: usize = 32_769;
 
 // Whether there is an argument i. One that is longer than the buffer is there too.
 fn has_arg(rt: &impl Env, i: usize) -> bool {
@@ -47,65 +36,42 @@ fn open_named<R: Env + Files>(rt: &R, i: usize) -> Option<R::File> {
     fs::open(rt, path).ok()
 }
 
-// Reads once. With no bytes and a good read, the file has ended.
-fn read_some(file: &mut impl Read, part: &mut [u8]) -> Taken
-    ensures in_bounds { result.size ≤ length part.new }
-    ensures prefix { result.size ≡ length (take result.size part.new) }
-{
-    match file.read(part) {
-        Ok(size) => Taken { good: true, size },
-        Err(_) => Taken {
-            good: false,
-            size: 0,
-        },
-    }
-}
-
-// Reads to the start of buf until the file ends, a read fails or buf is full. A pipe may give its bytes in pieces, and a device may never end.
-fn read_all(file: &mut impl Read, buf: &mut [u8]) -> Taken
-    ensures in_bounds { result.size ≤ length buf.new }
-    ensures prefix { result.size ≡ length (take result.size buf.new) }
+// Reads to the start of buf until the file ends, a read fails or buf is full. A pipe may give its bytes in pieces, and a device may never end. How many bytes a
+// read gives is known only after it, so the loop counts them. Answers how many came.
+fn read_all(file: &mut impl Read, buf: &mut [u8]) -> io::Result<usize>
+    ensures in_bounds { IfOk result (λ n. n ≤ length buf.new) }
+    ensures prefix { IfOk result (λ n. n ≡ length (take n buf.new)) }
 {
     let mut done: usize = 0;
     while done < buf.len() {
-        let taken = read_some(file, &mut buf[done..]);
-        if !taken.good {
-            return taken;
-        }
-        if taken.size == 0 {
+        let n = file.read(&mut buf[done..])?;
+        if n == 0 {
             break;
         }
-        done += taken.size;
+        done += n;
     }
-    Taken {
-        good: true,
-        size: done,
-    }
+    Ok(done)
 }
 
-// Reads the file that argument i names.
-fn read_file(rt: &(impl Env + Files), i: usize, buf: &mut [u8]) -> Taken
-    ensures in_bounds { result.size ≤ length buf.new }
-    ensures prefix { result.size ≡ length (take result.size buf.new) }
+// Reads the file that argument i names. None if there is none, it can't be opened or a read failed.
+fn read_file(rt: &(impl Env + Files), i: usize, buf: &mut [u8]) -> Option<usize>
+    ensures in_bounds { IfSome result (λ n. n ≤ length buf.new) }
+    ensures prefix { IfSome result (λ n. n ≡ length (take n buf.new)) }
 {
-    match open_named(rt, i) {
-        Some(mut file) => read_all(&mut file, buf),
-        None => Taken {
-            good: false,
-            size: 0,
-        },
-    }
+    let mut file = open_named(rt, i)?;
+    read_all(&mut file, buf).ok()
 }
 
 // Fails only where the line can't be written.
 fn main(rt: HostRuntime) -> io::Result<()> {
-    let mut first = space();
-    let mut second = space();
+    let mut first = [0u8; SPACE];
+    let mut second = [0u8; SPACE];
     let one = read_file(&rt, 1, &mut first);
     let two = read_file(&rt, 2, &mut second);
-    let n = one.size;
-    let m = two.size;
+    let read = one.is_some() && two.is_some();
+    let n = one.unwrap_or(0);
+    let m = two.unwrap_or(0);
     let mut out = [0u8; 49];
-    let k = compare_line::line(one.good && two.good, &first[..n], &second[..m], &mut out);
+    let k = compare_line::line(read, &first[..n], &second[..m], &mut out);
     rt.write_all(&out[..k])
 }

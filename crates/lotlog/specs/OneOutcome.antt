@@ -1,7 +1,7 @@
 -- ONE OUTCOME, CALL BY CALL: any two outcomes that the statement of a public call allows coincide. This file lists every public call of the library,
 -- and every export. A contract says that the answer, and what lent memory holds after the call, told in the terms of documents 01 and 02, are one function of what
 -- the call was given; `One told o` says that this leaves one answer. Each line cites the one law of rules, or the crate's own citation of it.
-use Rattle.std.specs.Prelude.{◌≡◌, [], ◌++◌, ℕ}
+use Rattle.std.specs.Prelude.{◌≡◌, [], ◌++◌, ℕ, ⊤, Result}
 use Rattle.std.proofs.Common.{sym, ap, ap₂, ◌∙◌}
 use Rattle.lists.specs.Bytes.{Bytes}
 use Rattle.sha256.specs.Stream.{begun, taken, finished, hashed}
@@ -15,8 +15,8 @@ use Rattle.rules.specs.Checking.{member}
 use Rattle.rules.specs.Dispute.{differing}
 use Rattle.rules.specs.Calls.{written, start_call, count_call, append_call, digest_call, held_call, build_membership_call, build_advancement_call, audit_call, advance_call, Disputed, dispute_call}
 use Rattle.rules.proofs.OneOutcome.{One, OneOf, one_of}
-use Rattle.store.specs.declared.Started.{Started}
-use Rattle.store.specs.declared.Appended.{Appended}
+use Rattle.store.specs.declared.StoreTooShort.{StoreTooShort}
+use Rattle.store.specs.declared.AppendError.{AppendError}
 use Rattle.store.specs.Told.{start_told, count_told, append_told, read_told}
 use Rattle.store.specs.Promises as store
 use Rattle.audit.specs.Told.{audit_told}
@@ -28,15 +28,14 @@ use Rattle.basis.specs.Told as basis
 use Rattle.file_form.specs.Calls.{write_call, read_call}
 use Rattle.saved.specs.Told.{file_told}
 use Rattle.saved.specs.Promises as saved
-use Rattle.build.specs.declared.Built.{Built}
+use Rattle.build.specs.declared.BuildError.{BuildError}
 use Rattle.build.specs.Told.{built_told}
 use Rattle.build.specs.Promises as build
 use Rattle.membership.specs.Verdicts.{verdict_of, one_verdict}
 use Rattle.advancement.specs.Advancing.{outcome_of}
 use Rattle.advancement.specs.Advances as advancement
 use Rattle.place.specs.Places.{cut}
-use Rattle.dispute.specs.declared.settle.Answer.{Answer}
-use Rattle.dispute.specs.Answers.{outcome, one_answer}
+use Rattle.dispute.specs.Answers.{Answer, outcome, one_answer}
 use Rattle.dictionary.specs.Calls.{handle_call, root_call, presence_call, absence_call, check_presence, check_absence, clash_call}
 use Rattle.handles.specs.Told.{handle_told}
 use Rattle.handles.specs.Told as handles
@@ -83,13 +82,13 @@ hash_state_finish s = one_of (finished s)
 
 -- ---- store
 
-pub store_start : (s : Bytes) (log : ℕ) → One (λ (x : Started × Bytes). written (start_told x.0) x.1) (start_call v1 s log)
+pub store_start : (s : Bytes) (log : ℕ) → One (λ (x : Result ⊤ StoreTooShort × Bytes). written (start_told x.0) x.1) (start_call v1 s log)
 store_start = store.start_one
 
 pub store_count : (s : Bytes) → One count_told (count_call v1 s)
 store_count = store.count_one
 
-pub store_append : (s e : Bytes) (stop : ℕ) → One (λ (x : Appended × Bytes). written (append_told x.0) x.1) (append_call hash_of v1 [] s e stop)
+pub store_append : (s e : Bytes) (stop : ℕ) → One (λ (x : Result Length AppendError × Bytes). written (append_told x.0) x.1) (append_call hash_of v1 [] s e stop)
 store_append = store.append_one
 
 pub store_digest_at : (s : Bytes) (at : ℕ) → One read_told (digest_call hash_of v1 s at)
@@ -120,10 +119,10 @@ saved_read = saved.read_one
 
 -- ---- build
 
-pub build_membership : (s : Bytes) (i n : ℕ) (out : Bytes) → One (λ (x : Built × Bytes). written (built_told x.0) x.1) (build_membership_call hash_of v1 s i n out)
+pub build_membership : (s : Bytes) (i n : ℕ) (out : Bytes) → One (λ (x : Result ℕ BuildError × Bytes). written (built_told x.0) x.1) (build_membership_call hash_of v1 s i n out)
 build_membership = build.membership_one
 
-pub build_advancement : (s : Bytes) (i n : ℕ) (out : Bytes) → One (λ (x : Built × Bytes). written (built_told x.0) x.1) (build_advancement_call hash_of v1 s i n out)
+pub build_advancement : (s : Bytes) (i n : ℕ) (out : Bytes) → One (λ (x : Result ℕ BuildError × Bytes). written (built_told x.0) x.1) (build_advancement_call hash_of v1 s i n out)
 build_advancement = build.advancement_one
 
 -- ---- membership and advancement

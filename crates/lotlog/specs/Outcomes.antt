@@ -1,7 +1,7 @@
 -- What each export leaves, whatever it is given: one function for each, by the export's name, made of the outcome of the call that it hands on.
 use Rattle.std.specs.Prelude.{[], ◌∷◌, ℕ}
 use Rattle.lists.specs.Bytes.{Bytes}
-use Rattle.sha256.specs.Stream.{hashed}
+use Rattle.sha256.specs.Stream.{hashed, number_of, digest_of}
 use Rattle.hash.specs.Hash.{hash_of}
 use Rattle.rules.specs.Numbers.{v1}
 use Rattle.rules.specs.Refusals.{done}
@@ -15,7 +15,7 @@ use Rattle.lotlog.specs.Exports.{Told, told, answered, Left, left, unless_refuse
 -- ---- hashing
 
 unfoldable pub lot_hash : Bytes → Bytes → Left
-lot_hash m d = let h = hashed m in leaves h.number h.digest d
+lot_hash m d = let h = hashed m in leaves (number_of h) (digest_of h) d
 
 -- ---- the store
 

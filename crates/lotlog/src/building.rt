@@ -7,6 +7,7 @@ use super::answering::tell;
 use path::{Length, Position};
 
 // Writes the membership proof of element i in the log of n elements to the start of `out`; what stands behind it stays. Answer: its length.
+#[tactic(auto, unfolding(crate::specs::Outcomes::lot_build_membership))]
 #[unsafe(no_mangle)]
 pub extern "C" fn lot_build_membership(
     store: &[u8],
@@ -17,11 +18,14 @@ pub extern "C" fn lot_build_membership(
 ) -> u64
     ensures { wrote result answer.new out.new ≡ lot_build_membership store.now i n out.old }
 {
-    let b = build::membership(store, Position(i), Length(n), out);
-    tell(numbers::built(b), answer)
+    tell(
+        build::membership(store, Position(i), Length(n), out),
+        answer,
+    )
 }
 
 // Writes the advancement proof from i to n elements to the start of `out`; what stands behind it stays. Answer: its length.
+#[tactic(auto, unfolding(crate::specs::Outcomes::lot_build_advancement))]
 #[unsafe(no_mangle)]
 pub extern "C" fn lot_build_advancement(
     store: &[u8],
@@ -32,6 +36,5 @@ pub extern "C" fn lot_build_advancement(
 ) -> u64
     ensures { wrote result answer.new out.new ≡ lot_build_advancement store.now i n out.old }
 {
-    let b = build::advancement(store, Length(i), Length(n), out);
-    tell(numbers::built(b), answer)
+    tell(build::advancement(store, Length(i), Length(n), out), answer)
 }

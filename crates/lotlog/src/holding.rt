@@ -1,16 +1,19 @@
 // Held states.
-ghost use Rattle.std.specs.Prelude.{◌≡◌};
+ghost use Rattle.std.specs.Prelude.{◌≡◌, IfErr, IfOk};
 ghost use Rattle.held.specs.Holding.{holds};
 ghost use Rattle.wire.specs.Wire.{wire_of};
-ghost use Rattle.lotlog.specs.Exports.{left, leaves, wrote};
+ghost use Rattle.numbers.specs.declared.Said.{Said};
+ghost use Rattle.lotlog.specs.Exports.{left, wrote};
 ghost use Rattle.lotlog.specs.Outcomes.{lot_held_start, lot_held_at, lot_held_write, lot_held_read};
 
-use super::answering::tell;
+use super::answering::{number_of, tell};
 use held::Held;
+use numbers::Said;
 use path::Length;
 use wire::{HELD_BYTES, read_held, write_held};
 
 // The state that a practice holds of a log before its first element.
+#[tactic(auto, unfolding(crate::specs::Outcomes::lot_held_start))]
 #[unsafe(no_mangle)]
 pub extern "C" fn lot_held_start(log: u64, held: &mut [u8; HELD_BYTES]) -> u64
     ensures { left result held.new ≡ lot_held_start log }
@@ -19,29 +22,31 @@ pub extern "C" fn lot_held_start(log: u64, held: &mut [u8; HELD_BYTES]) -> u64
     0
 }
 
-// Writes a state unless the number is a refusal; gives the number to return.
-pub fn leave_held(number: u64, new: Held, lent: &mut [u8; HELD_BYTES]) -> u64
-    ensures { left result lent.new ≡ leaves number (wire_of (holds new)) lent.old }
+// Writes a state unless there is a refusal; gives the number to return.
+fn leave_held<E: Into<Said>>(r: Result<Held, E>, lent: &mut [u8; HELD_BYTES]) -> u64
+    ensures ok { IfOk r (λ h. left result lent.new ≡ left 0 (wire_of (holds h))) }
+    ensures err { IfErr r (λ e. (s : Said) × E.converts e s × (left result lent.new ≡ left s.number lent.old)) }
 {
-    if number != 0 {
-        return number;
+    match r {
+        Ok(h) => {
+            write_held(h, lent);
+            0
+        }
+        Err(e) => number_of(e),
     }
-    write_held(new, lent);
-    0
 }
 
 // The state that a practice holds at a length, as the store gives it.
+#[tactic(auto, unfolding(crate::specs::Outcomes::lot_held_at))]
 #[unsafe(no_mangle)]
 pub extern "C" fn lot_held_at(store: &[u8], at: u64, held: &mut [u8; HELD_BYTES]) -> u64
     ensures { left result held.new ≡ lot_held_at store.now at held.old }
 {
-    let r = build::held_at(store, Length(at));
-    let found = r.found;
-    let h = r.held;
-    leave_held(numbers::found(found), h, held)
+    leave_held(build::held_at(store, Length(at)), held)
 }
 
 // Writes the file of a state to the start of `out`; what stands behind it stays. Answer: its length.
+#[tactic(auto, unfolding(crate::specs::Outcomes::lot_held_write))]
 #[unsafe(no_mangle)]
 pub extern "C" fn lot_held_write(
     held: &[u8; HELD_BYTES],
@@ -50,17 +55,14 @@ pub extern "C" fn lot_held_write(
 ) -> u64
     ensures { wrote result answer.new out.new ≡ lot_held_write held.now out.old }
 {
-    let s = saved::write(read_held(held), out);
-    tell(numbers::saved(s), answer)
+    tell(saved::write(read_held(held), out), answer)
 }
 
 // The state that a file gives.
+#[tactic(auto, unfolding(crate::specs::Outcomes::lot_held_read))]
 #[unsafe(no_mangle)]
 pub extern "C" fn lot_held_read(file: &[u8], held: &mut [u8; HELD_BYTES]) -> u64
     ensures { left result held.new ≡ lot_held_read file.now held.old }
 {
-    let r = saved::read(file);
-    let reading = r.reading;
-    let h = r.held;
-    leave_held(numbers::reading(reading), h, held)
+    leave_held(saved::read(file), held)
 }

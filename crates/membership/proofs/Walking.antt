@@ -7,7 +7,7 @@ use native.Mathlib.Numerals.{add-one}
 use native.Mathlib.Omega.{arith}
 use lib.Pow.{pow_pos}
 use lib.ListN.{length}
-use denote.Enum.Declared.{tag_of}
+use Rattle.std.specs.Prelude.{◌≢◌}
 use Rattle.lists.specs.Bytes.{Bytes, same}
 use Rattle.hash.specs.Hash.{hash_of}
 use Rattle.rules.specs.Numbers.{v1}
@@ -24,7 +24,6 @@ use Rattle.membership.specs.declared.Hop.TheVariants.{Good}
 use Rattle.membership.specs.declared.Hopped.{Hopped}
 use Rattle.membership.specs.Hopping.{level_here, to_here, link_holds, onward, hop_of, hop_good, hop_bad, good_test, verdict_by}
 use Rattle.membership.specs.Verdicts.{verdict_of}
-use Rattle.membership.specs.contracts.Hop.{the_type}
 
 -- the verdict of the walk from where it stands, with k hops good
 abbrev pub verdict_from : ℕ → Bytes → Bytes → Walk → ℕ → Judged ℕ
@@ -51,7 +50,7 @@ module _ (n : ℕ) (p D : Bytes) (w₀ w : Walk) (k : ℕ) (s : Stands n p D w�
 
     module _ (r : Hopped) (e : r ≡ hop_of p n w) where
       -- a bad hop decides
-      pub refuses : tag_of the_type r.verdict ≡ 1 → verdict_of (verdict_by r.verdict k) ≡ verdict_from n p D w₀ 0
+      pub refuses : r.verdict ≢ Good → verdict_of (verdict_by r.verdict k) ≡ verdict_from n p D w₀ 0
       unfolding verdict_of
       refuses t = go (link_holds p n w) refl
         where
@@ -59,7 +58,7 @@ module _ (n : ℕ) (p D : Bytes) (w₀ w : Walk) (k : ℕ) (s : Stands n p D w�
           told f = ap (λ (y : Hopped). y.verdict) (e ∙ f)
 
           go : (b : Bool) → link_holds p n w ≡ b → verdict_of (verdict_by r.verdict k) ≡ verdict_from n p D w₀ 0
-          go true f = absurd (let z : tag_of the_type r.verdict ≡ 0 = ap (tag_of the_type) (told (hop_good p n w f)) in omega (arith, t))
+          go true f = absurd (t (told (hop_good p n w f)))
           go false f = ap (λ (v : Hop). verdict_of (verdict_by v k)) (told (hop_bad p n w f)) ∙ sym (step false f)
 
       pub goes_on : r.verdict ≡ Good → Stands n p D w₀ r.state (k + 1) × (w.at.0 < r.state.at.0)

@@ -1,5 +1,5 @@
 -- One hop of a walk, as the code takes it: on to the next element, or the link that differs.
-use Rattle.std.specs.Prelude.{◌≡◌, refl, Bool, true, false, cond, ℕ, suc, ◌+◌, ◌^◌}
+use Rattle.std.specs.Prelude.{◌≡◌, refl, Bool, true, false, cond, ℕ, suc, ◌+◌, ◌^◌, Ok, Err}
 use Rattle.std.proofs.Common.{arith}
 use Rattle.lists.specs.Bytes.{Bytes, same}
 use Rattle.hash.specs.Hash.{hash_of}
@@ -11,8 +11,8 @@ use Rattle.membership.specs.declared.Walk.{Walk}
 use Rattle.membership.specs.declared.Hop.{Hop}
 use Rattle.membership.specs.declared.Hop.TheVariants.{Good, Link}
 use Rattle.membership.specs.declared.Hopped.{Hopped}
-use Rattle.membership.specs.declared.Verdict.{Verdict}
-use Rattle.membership.specs.declared.Verdict.TheVariants.{Accepted, LinkDiffers}
+use Rattle.membership.specs.declared.MembershipError.TheVariants.{LinkDiffers}
+use Rattle.membership.specs.Verdicts.{Verdict}
 
 module _ (p : Bytes) (n : ℕ) (w : Walk) where
   -- the level hopped, and where the hop ends
@@ -53,5 +53,5 @@ module _ (p : Bytes) (n : ℕ) (w : Walk) where
 
 -- what a hop's verdict says of the check, with k hops good before it
 abbrev pub verdict_by : Hop → ℕ → Verdict
-verdict_by Good k = Accepted k
-verdict_by (Link j l) k = LinkDiffers k j l
+verdict_by Good k = Ok k
+verdict_by (Link j l) k = Err (LinkDiffers k j l)

@@ -12,8 +12,7 @@ pub fn component_at(proof: &[u8], at: usize, j: Position) -> &[u8]
     requires { at + size v1 j.0 ≤ length proof.now }
     ensures { result.now ≡ part v1 proof.now at j.0 }
 {
-    let end = at + path::component_len(j);
-    &proof[at..end]
+    &proof[at..at + path::component_len(j)]
 }
 
 // Whether row r of a component is the digest d. Row 0 is the entry's, row l + 1 the link of level l.
@@ -21,17 +20,5 @@ pub fn row_is(component: &[u8], r: usize, d: Digest) -> bool
     requires { 32 * r + 32 ≤ length component.now }
     ensures { result ≡ same (row v1 component.now r) d.bytes }
 {
-    let at = 32 * r;
-    let end = at + 32;
-    let bytes = d.bytes;
-    lists::same(&component[at..end], &bytes)
-}
-
-// Whether two digests are the same.
-pub fn same_digest(a: Digest, b: Digest) -> bool
-    ensures { result ≡ same a.bytes b.bytes }
-{
-    let one = a.bytes;
-    let other = b.bytes;
-    lists::same(&one, &other)
+    component[32 * r..32 * r + 32] == d.bytes[..]
 }

@@ -17,15 +17,23 @@ fn run(
     presence: &[u8],
     absence: &[u8],
 ) -> io::Result<()> {
-    say::verdict(rt, lookup::check_presence(key, root, presence))?;
-    say::text(rt, ", ")?;
-    say::verdict(rt, lookup::check_absence(key, root, absence))?;
-    say::text(rt, "; ")?;
+    let shown = say::Checked(lookup::check_presence(key, root, presence));
+    let denied = say::Checked(lookup::check_absence(key, root, absence));
     let mut one = [0u8; 65];
     let mut other = [0u8; 65];
-    let c = clash::clash(key, root, presence, absence, &mut one, &mut other);
-    say::clashed(rt, c, &one, &other)?;
-    say::text(rt, "\n")
+    let to = clash::clash(key, root, presence, absence, &mut one, &mut other);
+    let came = say::Came {
+        to,
+        one: &one,
+        other: &other,
+    };
+    println!(rt; "{shown}, {denied}; {came}")
+}
+
+// The handle of a key; zeros for a key that has none.
+fn handle(key: &[u8]) -> Digest {
+    let zeros = Digest { bytes: [0u8; 32] };
+    handles::handle_of(key).unwrap_or(zeros)
 }
 
 // An absence that parts from the presence at this depth.
@@ -33,24 +41,14 @@ fn parted(rt: &impl Print, key: &[u8], depth: usize) -> io::Result<()> {
     if 255 < depth {
         return Ok(());
     }
-    say::number(rt, "parted at ", depth as u64)?;
-    say::text(rt, ": ")?;
-    let handle = handles::handle_of(key).digest;
+    print!(rt; "parted at {depth}: ")?;
+    let handle = handle(key);
     let mut presence = [0u8; 8192];
     let mut absence = [0u8; 8192];
     forge::scatter(&mut presence);
     let root = forge::full_at(handle, &presence, 0);
     forge::part(handle, &presence, depth, &mut absence);
-    let end = 32 * depth + 32;
-    run(rt, key, root, &presence, &absence[0..end])
-}
-
-// The front part of a presence, as an absence.
-fn front(rt: &impl Print, key: &[u8], root: Digest, presence: &[u8], end: usize) -> io::Result<()> {
-    if presence.len() < end {
-        return Ok(());
-    }
-    run(rt, key, root, presence, &presence[0..end])
+    run(rt, key, root, &presence, &absence[..32 * depth + 32])
 }
 
 // An absence that ends at this depth, at which the presence's node hashes to zeros.
@@ -58,31 +56,27 @@ fn zero(rt: &impl Print, key: &[u8], depth: usize) -> io::Result<()> {
     if 256 < depth {
         return Ok(());
     }
-    say::number(rt, "zeros at ", depth as u64)?;
-    say::text(rt, ": ")?;
-    let handle = handles::handle_of(key).digest;
+    print!(rt; "zeros at {depth}: ")?;
+    let handle = handle(key);
     let mut presence = [0u8; 8192];
     forge::scatter(&mut presence);
     forge::zero(handle, &mut presence, depth);
     let root = forge::full_at(handle, &presence, 0);
-    front(rt, key, root, &presence, 32 * depth)
+    run(rt, key, root, &presence, &presence[..32 * depth])
 }
 
 // Fails only where a line can't be written.
 fn main(rt: HostRuntime) -> io::Result<()> {
     let lot = b"lidocaine 2 %, lot 4711";
-    parted(&rt, lot, 0)?;
-    parted(&rt, lot, 1)?;
-    parted(&rt, lot, 100)?;
-    parted(&rt, lot, 255)?;
-    zero(&rt, lot, 0)?;
-    zero(&rt, lot, 1)?;
-    zero(&rt, lot, 100)?;
-    zero(&rt, lot, 255)?;
+    for depth in [0, 1, 100, 255] {
+        parted(&rt, lot, depth)?;
+    }
+    for depth in [0, 1, 100, 255] {
+        zero(&rt, lot, depth)?;
+    }
     // the key whose full leaf the stand-in hashes to zeros
-    zero(
-        &rt,
-        b"\x00\x00\x00\x00\x00\x00\x00\x00\x00\x00\x00\x00\x00\x00\x00\x00\x00\x00\x00\x00\x00\x00\x00\x00\x00\x00\x00\x00\x00\x00\x04\x03",
-        256,
-    )
+    let mut key = [0u8; 32];
+    key[30] = 4;
+    key[31] = 3;
+    zero(&rt, &key, 256)
 }

@@ -1,56 +1,62 @@
 // What the program writes of a case.
-use clash::Clashed;
-use lookup::Verdict;
-use std::io;
+use clash::{ClashError, Clashed, Shown};
+use lookup::LookupError;
+use std::fmt;
 
-pub(crate) fn text(rt: &impl Print, t: &str) -> io::Result<()> {
-    print!(rt; "{t}")
-}
+// What a check answered, with the number of its refusal.
+#[derive(Clone, Copy)]
+pub(crate) struct Checked(pub(crate) Result<(), LookupError>);
 
-pub(crate) fn number(rt: &impl Print, before: &str, n: u64) -> io::Result<()> {
-    text(rt, before)?;
-    print!(rt; "{n}")
-}
-
-pub(crate) fn verdict(rt: &impl Print, v: Verdict) -> io::Result<()> {
-    match v {
-        Verdict::Accepted => text(rt, "accepted"),
-        Verdict::KeyTooLong => text(rt, "refused 3"),
-        Verdict::WrongLength => text(rt, "refused 16"),
-        Verdict::RootDiffers => text(rt, "refused 17"),
+impl fmt::Display for Checked {
+    fn fmt<W: fmt::Write>(&self, f: &mut fmt::Formatter<W>) -> fmt::Result {
+        match self.0 {
+            Ok(()) => write!(f, "accepted"),
+            Err(LookupError::KeyTooLong) => write!(f, "refused 3"),
+            Err(LookupError::WrongLength) => write!(f, "refused 16"),
+            Err(LookupError::RootDiffers) => write!(f, "refused 17"),
+        }
     }
-}
-
-fn wide(x: u8) -> u64 {
-    x as u64
 }
 
 // The bytes of a message.
-fn bytes(rt: &impl Print, m: &[u8]) -> io::Result<()> {
-    text(rt, " ")?;
-    for byte in m {
-        print!(rt; "{:02x}", wide(*byte))?;
+#[derive(Clone, Copy)]
+struct Hex<'a>(&'a [u8]);
+
+impl<'a> fmt::Display for Hex<'a> {
+    fn fmt<W: fmt::Write>(&self, f: &mut fmt::Formatter<W>) -> fmt::Result {
+        for byte in self.0 {
+            write!(f, "{byte:02x}")?;
+        }
+        Ok(())
     }
-    Ok(())
 }
 
-// The messages that were formed.
-pub(crate) fn clashed(rt: &impl Print, c: Clashed, one: &[u8], other: &[u8]) -> io::Result<()> {
-    match c {
-        Clashed::Two { first, second } => {
-            number(rt, "two messages of ", first as u64)?;
-            number(rt, " and ", second as u64)?;
-            bytes(rt, one)?;
-            bytes(rt, other)
-        }
-        Clashed::Zero { size } => {
-            number(rt, "one message of ", size as u64)?;
-            if size <= one.len() {
-                bytes(rt, &one[0..size])?;
+// What the two proofs came to, and the buffers with the messages.
+#[derive(Clone, Copy)]
+pub(crate) struct Came<'a> {
+    pub(crate) to: Result<Clashed, ClashError>,
+    pub(crate) one: &'a [u8],
+    pub(crate) other: &'a [u8],
+}
+
+impl<'a> fmt::Display for Came<'a> {
+    fn fmt<W: fmt::Write>(&self, f: &mut fmt::Formatter<W>) -> fmt::Result {
+        let one = Hex(self.one);
+        let other = Hex(self.other);
+        match self.to {
+            Ok(Clashed::Two { first, second }) => {
+                write!(f, "two messages of {first} and {second} {one} {other}")
             }
-            Ok(())
+            Ok(Clashed::Zero { size }) => {
+                write!(f, "one message of {size}")?;
+                match self.one.get(..size) {
+                    Some(message) => write!(f, " {}", Hex(message)),
+                    None => Ok(()),
+                }
+            }
+            Err(ClashError::BufferShort) => write!(f, "denied 6"),
+            Err(ClashError::NotAccepted(Shown::Presence)) => write!(f, "denied 13 1"),
+            Err(ClashError::NotAccepted(Shown::Absence)) => write!(f, "denied 13 2"),
         }
-        Clashed::BufferShort => text(rt, "denied 6"),
-        Clashed::NotAccepted { which } => number(rt, "denied 13 ", which),
     }
 }

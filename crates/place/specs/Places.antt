@@ -1,5 +1,5 @@
 -- Where two proofs differ, as the rules have it; and that the part handed back stands inside the second proof.
-use Rattle.std.specs.Prelude.{◌≡◌, refl, Bool, true, false, ◌&&◌, cond, ℕ, ◌+◌, ◌≤◌, eqb, length, take, drop}
+use Rattle.std.specs.Prelude.{◌≡◌, refl, Bool, true, false, ◌&&◌, cond, ℕ, ◌+◌, ◌≤◌, eqb, length, take, drop, Option as Found, Some, None}
 use Rattle.std.proofs.Math.Option.{Option, none, some}
 use Rattle.std.proofs.Common.{arith, eqb-true}
 use Rattle.lists.specs.Bytes.{Bytes}
@@ -10,15 +10,16 @@ use Rattle.rules.specs.Checking.{between}
 use Rattle.rules.specs.Dispute.{Part as Place, nearest, part_of, differing}
 use Rattle.rules.proofs.Spots.{nearest_inside, differing_is}
 use Rattle.place.specs.declared.Spot.{Spot}
-use Rattle.place.specs.declared.Spot.TheVariants.{Nowhere, At}
 use Rattle.place.specs.declared.Part.{Part}
 
-abbrev pub spot_of : Spot → Option (ℕ × ℕ)
-spot_of Nowhere = none
-spot_of (At element offset) = some (element.0, offset)
+abbrev pub spot_of : Found Spot → Option (ℕ × ℕ)
+spot_of None = none
+spot_of (Some s) = some (s.element.0, s.offset)
 
-abbrev pub part_is : Part → Place
-part_is x = record { from = x.from; size = x.size }
+-- no part is that of no bytes
+abbrev pub part_is : Found Part → Place
+part_is None = record { from = 0; size = 0 }
+part_is (Some x) = record { from = x.from; size = x.size }
 
 -- the bytes of a part
 abbrev pub cut : Place → Bytes → Bytes

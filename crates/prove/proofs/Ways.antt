@@ -4,13 +4,11 @@ use mathlib.Core.Logic.{◌≢◌}
 use mathlib.Core.Bool.{Bool, not}
 use mathlib.Core.List.{List, [], ◌∷◌, ◌++◌}
 use Prim.Native.Nat.{ℕ, zero, suc, ◌+◌, ◌-◌, ◌*◌, ◌≤◌}
-use native.Mathlib.Nat.{zero-add}
 use native.Mathlib.Numerals.{add-one}
 use native.Mathlib.Omega.{arith}
 use lib.ListN.{length, take, drop}
-use lib.Seq.{paste, paste-zero}
 use Rattle.lists.specs.Bytes.{Bytes}
-use Rattle.lists.specs.Pasting.{paste_all, paste_more}
+use Rattle.std.proofs.Common.{append_assoc, drop-drop, length-append}
 use Rattle.hash.specs.Hash.{hash_of, hash_length}
 use Rattle.rules.specs.Calls.{over}
 use Rattle.dictionary.specs.Handles.{turn, side, rows_of, flat}
@@ -61,21 +59,20 @@ count_step {w} {v} {d} n e h = add-one n ∙ ap suc h ∙ sym (ap length e)
 
 -- ---- writing
 
-pub put_none : (o : Bytes) (at : ℕ) (w : List Bytes) → w ≡ [] → o ≡ paste o at (flat w) (32 * length w)
+pub put_none : (o : Bytes) (w : List Bytes) → w ≡ [] → o ≡ over (flat w) o
 unfolding flat
-put_none o at w e = paste-zero o at [] ∙ ap (λ (l : List Bytes). paste o at (flat l) (32 * length l)) (sym e)
+put_none o w e = sym (ap (λ (l : List Bytes). over (flat l) o) e)
 
-pub put_step : (e e' : ℕ) (k s r d o x y : Bytes) (at : ℕ) → way_over e k s ≡ d ∷ way_over e' k r → length d ≡ 32 → at ≤ length o → x ≡ paste o at d 32
-    → y ≡ paste x (at + 32) (flat (way_over e' k r)) (32 * length (way_over e' k r)) → y ≡ paste o at (flat (way_over e k s)) (32 * length (way_over e k s))
+-- a string in front, and another behind it over what is left
+over_more : (o d m : Bytes) → length d ≡ 32 → d ++ over m (drop 32 o) ≡ over (d ++ m) o
+over_more o d m l =
+    let e : 32 + length m ≡ length (d ++ m) = omega (arith, length-append d m) in
+    ap (λ (x : Bytes). d ++ (m ++ x)) (drop-drop (length m) 32 o) ∙ sym (append_assoc d m (drop (32 + length m) o)) ∙ ap (λ (n : ℕ). (d ++ m) ++ drop n o) e
+
+pub put_step : (w v : List Bytes) (d o x y : Bytes) → w ≡ d ∷ v → length d ≡ 32 → x ≡ d → y ≡ over (flat v) (drop 32 o) → x ++ y ≡ over (flat w) o
 unfolding flat
-put_step e e' k s r d o x y at q ld fits ex ey =
-    let w = way_over e' k r in
-    let n = flat_length w (way_whole hash_of hash_length e' k (rows_of r)) in
-    let m : 32 + 32 * length w ≡ 32 * length (way_over e k s) = let l = ap length q in omega arith in
-    ey
-    ∙ ap (λ (z : Bytes). paste z (at + 32) (flat w) (32 * length w)) ex
-    ∙ paste_more o d (flat w) at 32 (32 * length w) ld n fits
-    ∙ ap₂ {A = List Bytes} {B = ℕ} {C = Bytes} (λ l j. paste o at (flat l) j) (sym q) m
+put_step w v d o x y q l ex ey =
+    ap₂ {A = Bytes} {B = Bytes} {C = Bytes} (λ a b. a ++ b) ex ey ∙ over_more o d (flat v) l ∙ sym (ap (λ (u : List Bytes). over (flat u) o) q)
 
 pub node_long : (e : ℕ) (hs : List Bytes) → length (subtree hash_of e hs) ≡ 32
 node_long e hs = subtree_length hash_of hash_length e hs
@@ -84,9 +81,3 @@ node_long e hs = subtree_length hash_of hash_length e hs
 
 pub sized : (k s : Bytes) (n : ℕ) → n ≡ length (way_over 256 k s) → 32 * n ≡ length (flat (way_over 256 k s))
 sized k s n h = ap (λ (x : ℕ). 32 * x) h ∙ sym (flat_length (way_over 256 k s) (way_whole hash_of hash_length 256 k (rows_of s)))
-
-pub over_start : (k s o x : Bytes) → x ≡ paste o 0 (flat (way_over 256 k s)) (32 * length (way_over 256 k s)) → x ≡ over (flat (way_over 256 k s)) o
-over_start k s o x e =
-    let w = way_over 256 k s in
-    let l = flat_length w (way_whole hash_of hash_length 256 k (rows_of s)) in
-    e ∙ paste_all o (flat w) 0 (32 * length w) l ∙ ap (λ (n : ℕ). flat w ++ drop n o) (zero-add (32 * length w) ∙ sym l)

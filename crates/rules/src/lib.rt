@@ -1,2 +1,2 @@
-// Document 01 as definitions, and what follows from them, for any hash and any version of the log. There is no code here: specs/ has it all.
+// Document 01 as definitions, and what follows from them, for any hash and any version of the log. There is no code here: specs/ has the definitions, proofs/ what follows.
 #![tactic(auto)]

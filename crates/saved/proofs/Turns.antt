@@ -1,14 +1,15 @@
 -- One turn of each loop over the rows, at row l, and the loop's end; and head and rows as the whole file. q is the count in steps of row l's level: its lowest bit tells
 -- whether that row is in use.
 use mathlib.Core.Path.{◌≡◌, refl, sym, ap, ap₂, ◌∙◌}
-use mathlib.Core.Bool.{cond}
+use mathlib.Core.Bool.{true, cond}
 use mathlib.Core.List.{List, [], ◌∷◌, ◌++◌, append-nil}
 use Prim.Native.Nat.{ℕ, suc, ◌+◌, ◌-◌, ◌*◌, ◌/◌, ◌%◌, ◌^◌, ◌≤◌, ◌<◌, zero-le}
 use native.Mathlib.Nat.{zero-add, div-one, div-eq_of_lt}
 use native.Mathlib.Numerals.{add-one}
 use native.Mathlib.Omega.{arith}
 use lib.Count.{ones, ones_step}
-use lib.ListN.{length, get_or, set, take, drop, length-append, length-set}
+use lib.ListN.{length, get_or, set, take, drop, replicate, length-append, length-set}
+use Rattle.std.proofs.lemmas.List.{get_or-replicate, get_or-set_other}
 use lib.Seq.{paste, paste-zero, length-paste, take_all, take-suc, take-suc-set, length-take-le, drop-drop, append_snoc}
 use Rattle.lists.specs.Bytes.{Bytes, be, zeros}
 use Rattle.lists.specs.Pasting.{paste_all, paste_more}
@@ -22,14 +23,6 @@ use Rattle.file_form.proofs.Rows.{none_left, row_size, use_more}
 use Rattle.file_form.proofs.Back.{few_bits}
 
 -- ---- one row
-
--- a row that is not in use leaves the output,
-pub put_free : (out : Bytes) (at q : ℕ) (r : Bytes) → q % 2 ≡ 0 → out ≡ paste out at (cond (odd q) r []) (32 * (q % 2))
-put_free out at q r e = rw (is_free q e, e) (paste-zero out at [])
-
--- and one that is goes there whole.
-pub put_whole : (out : Bytes) (at q : ℕ) (r : Bytes) → (q % 2 ≡ 0 → ⊥) → paste out at r 32 ≡ paste out at (cond (odd q) r []) (32 * (q % 2))
-put_whole out at q r n = let e : q % 2 ≡ 1 = omega arith in rw (is_used q n, e)
 
 -- past the last row no bit is left
 none_above : (n q l : ℕ) → n ≤ limit v1 → q ≡ n / 2 ^ l → v1.levels ≤ l → l ≤ v1.levels → ones q ≡ 0
@@ -69,7 +62,7 @@ module _ (out₀ : Bytes) (rs : List Bytes) (n : ℕ) (out : Bytes) (q at l : �
   pub put_fits : at + 32 * (q % 2) ≤ length out
   put_fits = omega (arith, i.left, i.long, i.room, ones_step q)
 
-  module _ (h : l < v1.levels) (r o : Bytes) (known : r ≡ get_or rs l []) (whole : length r ≡ 32) (put : o ≡ paste out at (cond (odd q) r []) (32 * (q % 2))) where
+  module _ (h : l < v1.levels) (r o : Bytes) (known : r ≡ get_or rs l []) (sized : length (cond (odd q) r []) ≡ 32 * (q % 2)) (put : o ≡ paste out at (cond (odd q) r []) (32 * (q % 2))) where
     -- the rows in use among the first l + 1 are those among the first l, and row l if it is
     one_more : in_use n (take (l + 1) rs) ≡ in_use n (take l rs) ++ cond (odd q) r []
     one_more =
@@ -82,22 +75,36 @@ module _ (out₀ : Bytes) (rs : List Bytes) (n : ℕ) (out : Bytes) (q at l : �
     more_long : length (in_use n (take (l + 1) rs)) ≡ length (in_use n (take l rs)) + 32 * (q % 2)
     more_long =
         ap length one_more ∙ length-append (in_use n (take l rs)) (cond (odd q) r [])
-        ∙ ap (λ (k : ℕ). length (in_use n (take l rs)) + k) (row_size q r whole)
+        ∙ ap (λ (k : ℕ). length (in_use n (take l rs)) + k) sized
 
     pub put_turn : Put out₀ rs n o (q / 2) (at + 32 * (q % 2)) (l + 1)
     put_turn = record {
       low = omega arith;
       all = i.all;
-      long = ap length put ∙ length-paste out at (cond (odd q) r []) (32 * (q % 2)) put_fits (omega (arith, row_size q r whole)) ∙ i.long;
+      long = ap length put ∙ length-paste out at (cond (odd q) r []) (32 * (q % 2)) put_fits (omega (arith, sized)) ∙ i.long;
       room = i.room;
       bits = ap (λ (k : ℕ). k / 2) i.bits ∙ sym (halve n l) ∙ ap (λ (k : ℕ). n / 2 ^ k) (sym (add-one l));
       left = omega (arith, i.left, ones_step q);
       place = omega (arith, i.place, more_long);
       stand = put
           ∙ ap₂ {A = Bytes} {B = ℕ} {C = Bytes} (λ x k. paste x k (cond (odd q) r []) (32 * (q % 2))) i.stand (sym i.place)
-          ∙ paste_more out₀ (in_use n (take l rs)) (cond (odd q) r []) head_size (length (in_use n (take l rs))) (32 * (q % 2)) refl (row_size q r whole) (omega (arith, i.room))
+          ∙ paste_more out₀ (in_use n (take l rs)) (cond (odd q) r []) head_size (length (in_use n (take l rs))) (32 * (q % 2)) refl sized (omega (arith, i.room))
           ∙ ap₂ {A = Bytes} {B = ℕ} {C = Bytes} (λ x k. paste out₀ head_size x k) (sym one_more) (sym more_long);
     }
+
+  -- a row in use goes to `at`, whole,
+  pub put_used : l < v1.levels → (r o : Bytes) → r ≡ get_or rs l [] → length r ≡ 32 → q % 2 ≡ 1 → o ≡ paste out at r 32 → Put out₀ rs n o (q / 2) (at + 32) (l + 1)
+  put_used h r o known whole e put =
+      let u : odd q ≡ true = is_used q (λ z. omega arith) in
+      let k : at + 32 * (q % 2) ≡ at + 32 = omega arith in
+      rw k at (put_turn h r o known (row_size q r whole) (rw (u, e) put))
+
+  -- and one that is not leaves the output.
+  pub put_free : l < v1.levels → (q % 2 ≡ 1 → ⊥) → Put out₀ rs n out (q / 2) at (l + 1)
+  put_free h e =
+      let z : q % 2 ≡ 0 = omega arith in
+      let k : at + 32 * (q % 2) ≡ at = omega arith in
+      rw k at (put_turn h (get_or rs l []) out refl (rw (is_free q z, z)) (rw (is_free q z, z) (paste-zero out at [])))
 
   module _ (h : v1.levels ≤ l) (few : n ≤ limit v1) where
     every : take l rs ≡ rs
@@ -114,15 +121,16 @@ module _ (out₀ : Bytes) (rs : List Bytes) (n : ℕ) (out : Bytes) (q at l : �
 
 -- ---- rows that are read
 
--- After l turns the first l rows stand there, and the others are those that the bytes from `at` on give.
+-- After l turns the first l rows stand there, the others are those that the bytes from `at` on give, and each of them is zero so far.
 pub record Got (f : Bytes) (n : ℕ) (rs : List Bytes) (q at l : ℕ) : Type 0 where
   pub low : l ≤ v1.levels
   pub all : length rs ≡ v1.levels
   pub left : at + 32 * ones q ≡ length f
   pub stand : take l rs ++ rows_in (v1.levels - l) q (drop at f) ≡ rows_in v1.levels n (drop head_size f)
+  pub free : (k : ℕ) → l ≤ k → k < v1.levels → get_or rs k [] ≡ zeros
 
-pub got_start : (f : Bytes) (n : ℕ) (rs : List Bytes) → length rs ≡ v1.levels → length f ≡ file_size n → Got f n rs n head_size 0
-got_start f n rs all size = record { low = omega arith; all = all; left = sym size; stand = refl }
+pub got_start : (f : Bytes) (n : ℕ) → length f ≡ file_size n → Got f n (replicate v1.levels zeros) n head_size 0
+got_start f n size = record { low = omega arith; all = refl; left = sym size; stand = refl; free = λ k b h. get_or-replicate v1.levels k zeros [] h }
 
 module _ (f : Bytes) (n : ℕ) (rs : List Bytes) (q at l : ℕ) (i : Got f n rs q at l) where
   -- row l is there
@@ -147,7 +155,22 @@ module _ (f : Bytes) (n : ℕ) (rs : List Bytes) (q at l : ℕ) (i : Got f n rs 
           ∙ append_snoc (take l rs) r (rows_in (v1.levels - (l + 1)) (q / 2) (drop (at + 32 * (q % 2)) f))
           ∙ ap (λ (x : List Bytes). take l rs ++ x) (sym rest)
           ∙ i.stand;
+      free = λ k b g. get_or-set_other rs l k r [] (omega arith) ∙ i.free k (omega arith) g;
     }
+
+  -- a row in use is the one that stands at `at`,
+  pub got_used : l < v1.levels → (r : Bytes) → q % 2 ≡ 1 → r ≡ take 32 (drop at f) → Got f n (set rs l r) (q / 2) (at + 32) (l + 1)
+  got_used h r e read =
+      let u : odd q ≡ true = is_used q (λ z. omega arith) in
+      let k : at + 32 * (q % 2) ≡ at + 32 = omega arith in
+      rw k at (got_turn h r (rw u read))
+
+  -- and one that is not stays zero.
+  pub got_free : l < v1.levels → (r : Bytes) → (q % 2 ≡ 1 → ⊥) → r ≡ get_or rs l [] → Got f n (set rs l r) (q / 2) at (l + 1)
+  got_free h r e kept =
+      let z : q % 2 ≡ 0 = omega arith in
+      let k : at + 32 * (q % 2) ≡ at = omega arith in
+      rw k at (got_turn h r (rw (is_free q z) (kept ∙ i.free l (omega arith) h)))
 
   pub got_end : v1.levels ≤ l → rs ≡ rows_in v1.levels n (drop head_size f)
   unfolding rows_in

@@ -2,7 +2,8 @@
 use mathlib.Core.Path.{◌≡◌, refl, sym, ap, ap₂, ◌∙◌}
 use mathlib.Core.List.{[], ◌∷◌, ◌++◌, append_assoc, append-nil}
 use Prim.Native.Nat.{ℕ, ◌+◌, ◌-◌, ◌*◌, ◌/◌, ◌%◌, ◌≤◌, ◌<◌, zero-le}
-use native.Mathlib.Nat.{zero-add}
+use native.Mathlib.Nat.{zero-add, div-one}
+use Rattle.std.specs.Int.{w64, to_be_bytes}
 use native.Mathlib.Omega.{arith}
 use lib.ListN.{length, take, drop, replicate, length-append, length-replicate, replicate-append-replicate, drop_of_length-le}
 use lib.Seq.{paste, take_all, take_at, drop_at}
@@ -12,6 +13,10 @@ use Rattle.fips.specs.Sha256.{padding, compress, chained}
 use Rattle.sha256.specs.Runs.{zeros}
 use Rattle.sha256.specs.Ending.{ended}
 use Rattle.fips.specs.declared.Words.{Words}
+
+-- the eight bytes of a count, as the library gives them
+pub counted_bytes : (n : ℕ) → to_be_bytes w64 n ≡ be 8 n
+counted_bytes n = rw div-one
 
 -- the bit 1 and n zero bytes
 abbrev mark : ℕ → Bytes

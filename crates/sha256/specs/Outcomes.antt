@@ -1,23 +1,19 @@
 -- What each call gives, told by its tests.
-use Rattle.std.specs.Prelude.{◌≡◌, refl, Bool, true, false, cond, not, ◌||◌, ℕ, ◌+◌, ◌%◌, ◌≤◌, ◌<◌, ltb, eqb, replicate}
+use Rattle.std.specs.Prelude.{◌≡◌, refl, Bool, true, false, cond, not, ◌||◌, ℕ, ◌+◌, ◌%◌, ◌≤◌, ◌<◌, ltb, eqb, Result, Ok, Err}
 use Rattle.std.proofs.Common.{◌∙◌, arith}
 use borrow.Author.Tests.{le-ltb, lt-ltb, ltb-false, eq-eqb, ne_eqb, eqb-true}
 use Rattle.std.proofs.Math.ListN.{length}
 use Rattle.lists.specs.Bytes.{Bytes}
 use Rattle.fips.specs.Sha256.{padding, bytes_of, sha256}
-use Rattle.sha256.specs.Stream.{limit, absorbed, broken, taken, finished, hashed}
+use Rattle.sha256.specs.Stream.{limit, absorbed, broken, taken, finished, hashed, taken_number, taken_state}
 use Rattle.sha256.specs.declared.HashState.{HashState}
-use Rattle.sha256.specs.declared.Taken.{Taken}
-use Rattle.sha256.specs.declared.Hashed.{Hashed}
+use Rattle.sha256.specs.declared.HashError.{HashError}
+use Rattle.sha256.specs.declared.HashError.TheVariants.{StateBroken, TooLong}
+use Rattle.sha256.specs.declared.Untaken.{Untaken}
 
-abbrev pub told : ℕ → HashState → Taken
-told n s = record { number = n; state = s }
-
-abbrev pub answered : ℕ → Bytes → Hashed
-answered n d = record { number = n; digest = d }
-
-abbrev pub refused : ℕ → Hashed
-refused n = answered n (replicate 32 0)
+-- a refusal, with the state as it came
+abbrev pub came_back : HashError → HashState → Result HashState Untaken
+came_back e s = Err (record { error = e; state = s })
 
 neither : (a b : Bool) → (not a || b) ≡ false → (a ≡ true) × (b ≡ false)
 neither true b e = (refl, e)
@@ -41,41 +37,42 @@ module _ (s : HashState) where
       let p = neither (eqb s.fill (s.total % 64)) (ltb limit s.total) b in
       (eqb-true s.fill (s.total % 64) p.0, ltb-false limit s.total p.1)
 
-  pub finished_broken : broken s ≡ true → finished s ≡ refused 2
+  pub finished_broken : broken s ≡ true → finished s ≡ Err StateBroken
   unfolding finished
   finished_broken b = rw b
 
-  pub finished_sound : broken s ≡ false → finished s ≡ answered 0 (bytes_of (absorbed s (padding s.total)).words)
+  pub finished_sound : broken s ≡ false → finished s ≡ Ok (bytes_of (absorbed s (padding s.total)).words)
   unfolding finished
   finished_sound b = rw b
 
   module _ (m : Bytes) where
-    pub taken_broken : broken s ≡ true → taken s m ≡ told 2 s
+    pub taken_broken : broken s ≡ true → taken s m ≡ came_back StateBroken s
     unfolding taken
     taken_broken b = rw b
 
-    pub taken_long : broken s ≡ false → limit < s.total + length m → taken s m ≡ told 3 s
+    pub taken_long : broken s ≡ false → limit < s.total + length m → taken s m ≡ came_back TooLong s
     unfolding taken
     taken_long b h = rw (b, lt-ltb limit (s.total + length m) h)
 
-    pub taken_fits : broken s ≡ false → s.total + length m ≤ limit → taken s m ≡ told 0 (absorbed s m)
+    pub taken_fits : broken s ≡ false → s.total + length m ≤ limit → taken s m ≡ Ok (absorbed s m)
     unfolding taken
     taken_fits b h = rw (b, le-ltb limit (s.total + length m) h)
 
-kept : (b d : Bool) (s u : HashState) → ((cond b (told 2 s) (cond d (told 3 s) (told 0 u))).number ≡ 0 → ⊥) → (cond b (told 2 s) (cond d (told 3 s) (told 0 u))).state ≡ s
+kept : (b d : Bool) (s u : HashState) → (taken_number (cond b (came_back StateBroken s) (cond d (came_back TooLong s) (Ok u))) ≡ 0 → ⊥)
+    → taken_state (cond b (came_back StateBroken s) (cond d (came_back TooLong s) (Ok u))) ≡ s
 kept true d s u h = refl
 kept false true s u h = refl
 kept false false s u h = absurd (h refl)
 
 -- a refused state is as it came
-pub taken_refused : (s : HashState) (m : Bytes) → ((taken s m).number ≡ 0 → ⊥) → (taken s m).state ≡ s
+pub taken_refused : (s : HashState) (m : Bytes) → (taken_number (taken s m) ≡ 0 → ⊥) → taken_state (taken s m) ≡ s
 unfolding taken
 taken_refused s m h = kept (broken s) (ltb limit (s.total + length m)) s (absorbed s m) h
 
-pub hashed_long : (m : Bytes) → limit < length m → hashed m ≡ refused 3
+pub hashed_long : (m : Bytes) → limit < length m → hashed m ≡ Err TooLong
 unfolding hashed
 hashed_long m h = rw (lt-ltb limit (length m) h)
 
-pub hashed_fits : (m : Bytes) → length m ≤ limit → hashed m ≡ answered 0 (sha256 m)
+pub hashed_fits : (m : Bytes) → length m ≤ limit → hashed m ≡ Ok (sha256 m)
 unfolding hashed
 hashed_fits m h = rw (le-ltb limit (length m) h)

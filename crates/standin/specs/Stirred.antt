@@ -1,5 +1,5 @@
 -- The stand-in byte by byte, as code XORs: byte i of the message goes to place i % 32. Any cutting of the message gives the same.
-use Rattle.std.specs.Prelude.{◌≡◌, refl, [], ◌∷◌, ◌++◌, ℕ, zero, suc, ◌+◌, ◌-◌, ◌*◌, ◌/◌, ◌%◌, ◌≤◌, ◌<◌, get_or, set, take, drop, replicate}
+use Rattle.std.specs.Prelude.{◌≡◌, refl, [], ◌∷◌, ◌++◌, ℕ, zero, suc, ◌+◌, ◌*◌, ◌/◌, ◌%◌, ◌≤◌, ◌<◌, get_or, set, take, drop, replicate}
 use Rattle.std.proofs.Math.Path.{sym, ap}
 use Rattle.std.proofs.Common.{ap₂, ◌∙◌, append_assoc, append-nil, arith, add-zero, mod-eq_of_lt, lit<, length-set, length-append, length-drop, take-append-drop, drop_of_length-le, take_all, length-take-le}
 use Rattle.std.proofs.Math.Decide.{dec_le}

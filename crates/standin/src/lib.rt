@@ -5,9 +5,22 @@ ghost use Rattle.std.specs.Prelude.{◌≡◌, ◌<◌};
 ghost use Rattle.standin.specs.Stirred.{stirred};
 ghost use Rattle.standin.specs.Joined.{joined_of};
 
-#[derive(Clone, Copy)]
+use std::fmt;
+
+// The same type stands in `hash`: either crate takes the other's place, so neither can stand on it.
+#[derive(Clone, Copy, Debug, PartialEq, Eq)]
 pub struct Digest {
     pub bytes: [u8; 32],
+}
+
+// Two hex digits for each byte.
+impl fmt::Display for Digest {
+    fn fmt<W: fmt::Write>(&self, f: &mut fmt::Formatter<W>) -> fmt::Result {
+        for byte in self.bytes {
+            write!(f, "{byte:02x}")?;
+        }
+        Ok(())
+    }
 }
 
 // The row with the bytes of s XORed in, the first at place `at`.
@@ -17,11 +30,9 @@ fn stir(row: [u8; 32], s: &[u8], at: usize) -> [u8; 32]
 {
     let mut out = row;
     let mut k = at;
-    let mut i: usize = 0;
-    while i < s.len() {
-        out[k] = out[k] ^ s[i];
+    for &byte in s {
+        out[k] ^= byte;
         k = (k + 1) % 32;
-        i += 1;
     }
     out
 }

@@ -1,51 +1,32 @@
--- The two sides of a lent list of handles, and the search for the first handle with bit 1.
+-- The search for the first handle with bit 1, and the two sides of a lent list of handles.
 use mathlib.Core.Path.{◌≡◌, refl, sym, ap, ◌∙◌}
 use mathlib.Core.Bool.{Bool, true, false, cond}
 use mathlib.Core.List.{List, [], ◌∷◌}
 use Prim.Native.Nat.{ℕ, suc, ◌+◌, ◌*◌, ◌/◌, ◌%◌, ◌≤◌, ◌<◌}
 use native.Mathlib.Omega.{arith}
 use native.Mathlib.Numerals.{add-one}
-use lib.ListN.{length, take, drop, length-drop, drop_of_length-le}
+use lib.ListN.{length, take, drop, length-drop}
 use lib.Seq.{length-take-le}
+use Rattle.std.proofs.Math.Decide.{dec_lt}
+use Rattle.std.specs.Prelude.{Option, Some, None, not, unwrap_or, ltb}
+use Rattle.std.specs.List.{position_or_len}
+use borrow.Author.Tests.{lt-ltb, le-ltb}
 use Rattle.lists.specs.Bytes.{Bytes}
 use Rattle.dictionary.specs.Handles.{turn, side, rows_of, leading}
-use Rattle.dictionary.proofs.Rows.{rows_none, rows_next, rows_take, rows_drop, rows_length}
+use Rattle.dictionary.proofs.Rows.{rows_take, rows_drop, rows_length}
 use Rattle.dictionary.proofs.Sides.{digit, side_near, side_rises, split}
 use Rattle.trie.specs.Tidy.{Tidy, Sided}
 
--- ---- the search: what lies before `at` has bit 0
+-- ---- the search for the first handle with bit 1
 
-pub record Seeks (s : Bytes) (e at : ℕ) : Type 0 where
-  pub row : at % 32 ≡ 0
-  pub within : at ≤ length s
-  pub so_far : 32 * leading e (rows_of s) ≡ at + 32 * leading e (rows_of (drop at s))
-
-module _ (s : Bytes) (e at : ℕ) (w : length s % 32 ≡ 0) (k : Seeks s e at) where
-  pub room : at < length s → at + 32 ≤ length s
-  room h = omega (arith, k.row, k.within)
-
-  pub stops : at < length s → turn e (take 32 (drop at s)) ≡ true → at ≡ 32 * leading e (rows_of s)
-  unfolding leading
-  stops h t = sym (k.so_far ∙ (let z : leading e (rows_of (drop at s)) ≡ 0 = ap (leading e) (rows_next s at (room h)) ∙ rw t in omega arith))
-
-  pub goes_on : at < length s → turn e (take 32 (drop at s)) ≡ false → Seeks s e (at + 32)
-  unfolding leading
-  goes_on h t =
-      let r = room h in
-      let z : leading e (rows_of (drop at s)) ≡ suc (leading e (rows_of (drop (at + 32) s))) = ap (leading e) (rows_next s at r) ∙ rw t in
-      record { row = omega (arith, k.row); within = r; so_far = omega (arith, k.so_far) }
-
-  pub ends : length s ≤ at → at ≡ 32 * leading e (rows_of s)
-  unfolding leading
-  ends h =
-      let d : drop at s ≡ [] = drop_of_length-le s {i = at} h in
-      let z : leading e (rows_of (drop at s)) ≡ 0 = ap (λ (x : Bytes). leading e (rows_of x)) d ∙ ap (leading e) (rows_none [] (omega arith)) in
-      omega (arith, k.so_far)
-
-pub seeks : (s : Bytes) (e : ℕ) → Seeks s e 0
-seeks s e = record { row = refl; within = omega arith; so_far = omega arith }
-
--- ---- the sides
+leading_is : (e : ℕ) (hs : List Bytes) → position_or_len (turn e) hs ≡ leading e hs
+unfolding leading
+leading_is e [] = refl
+leading_is e (h ∷ hs) = go (turn e h) (leading_is e hs)
+  where
+    go : (b : Bool) → position_or_len (turn e) hs ≡ leading e hs → cond (not b) (1 + position_or_len (turn e) hs) 0 ≡ cond b 0 (suc (leading e hs))
+    go true l = refl
+    go false l = omega arith
 
 pub leading_most : (e : ℕ) (hs : List Bytes) → leading e hs ≤ length hs
 unfolding leading
@@ -55,6 +36,17 @@ leading_most e (h ∷ hs) = go (turn e h) (leading_most e hs)
     go : (b : Bool) → leading e hs ≤ length hs → cond b 0 (suc (leading e hs)) ≤ suc (length hs)
     go true l = omega arith
     go false l = omega arith
+
+-- where the first one stands, or how many there are
+pub first_one : (e : ℕ) (hs : List Bytes) (r : Option ℕ) → r ≡ cond (ltb (position_or_len (turn e) hs) (length hs)) (Some (position_or_len (turn e) hs)) None
+    → unwrap_or r (length hs) ≡ leading e hs
+first_one e hs r h = rw (h, leading_is e hs) (go (dec_lt (leading e hs) (length hs)))
+  where
+    go : Dec (leading e hs < length hs) → unwrap_or (cond (ltb (leading e hs) (length hs)) (Some (leading e hs)) None) (length hs) ≡ leading e hs
+    go (yes l) = rw (lt-ltb (leading e hs) (length hs) l)
+    go (no l) = rw (le-ltb (leading e hs) (length hs) (omega arith)) (omega (arith, leading_most e hs))
+
+-- ---- the sides
 
 module _ (s : Bytes) (e cut : ℕ) (t : Tidy (e + 1) s) (c : cut ≡ 32 * leading e (rows_of s)) where
   near' : Tidy (suc e) s

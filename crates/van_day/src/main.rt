@@ -4,181 +4,120 @@
 #![tactic(auto)]
 
 use hash::Digest;
-use sealed::{Adding, Checked};
+use sealed::{AddError, Added, CheckError};
 use std::io;
 
-fn say(rt: &impl Print, text: &str) -> io::Result<()> {
-    print!(rt; "{text}")
-}
+// What stands beside a refusal, and before the first entry.
+const ZEROS: Digest = Digest { bytes: [0; 32] };
 
-fn say_number(rt: &impl Print, n: u64) -> io::Result<()> {
-    print!(rt; "{n}")
-}
-
-fn say_digest(rt: &impl Print, digest: &[u8; 32]) -> io::Result<()> {
-    print!(rt; "{:016x}", lists::number_at(digest, 0))?;
-    print!(rt; "{:016x}", lists::number_at(digest, 8))?;
-    print!(rt; "{:016x}", lists::number_at(digest, 16))?;
-    print!(rt; "{:016x}", lists::number_at(digest, 24))
-}
-
-// The number answered and the length; gives the length.
-fn say_adding(rt: &impl Print, adding: Adding) -> io::Result<u64> {
-    match adding {
-        Adding::Written { size } => {
-            say(rt, "add 0 ")?;
-            say_number(rt, size)?;
-            Ok(size)
-        }
-        Adding::TooLong => {
-            say(rt, "add 3 0")?;
-            Ok(0)
-        }
-        Adding::OutputShort => {
-            say(rt, "add 6 0")?;
-            Ok(0)
-        }
-        Adding::Closed => {
-            say(rt, "add 23 0")?;
-            Ok(0)
-        }
-    }
-}
-
-fn say_checked(rt: &impl Print, checked: Checked) -> io::Result<()> {
-    match checked {
-        Checked::Sound { entries } => {
-            say(rt, "check 0 ")?;
-            say_number(rt, entries)?;
-        }
-        Checked::Wrong { entry } => {
-            say(rt, "check 24 ")?;
-            say_number(rt, entry)?;
-        }
-        Checked::Unclosed => say(rt, "check 25 0")?,
-    }
-    say(rt, "\n")
-}
-
-// Where a log stands: the chain's value, and its bytes so far.
-#[derive(Clone, Copy)]
-struct Log {
+// A van: its key, the chain's value, and its log, which goes on at `end`.
+#[derive(Drop)]
+struct Van {
+    key: [u8; 32],
     chain: Digest,
-    at: usize,
+    log: [u8; 320],
+    end: usize,
 }
 
-// Adds an entry behind those that stand in the bytes.
-fn put(
-    rt: &impl Print,
-    l: Log,
-    bytes: &mut [u8],
-    key: &mut [u8; 32],
-    kind: u32,
-    text: &[u8],
-) -> io::Result<Log> {
-    let at = l.at;
-    if bytes.len() < at {
-        return Ok(l);
+impl Van {
+    // Adds an entry. A line has the number answered, the bytes of the entry, Y and the key after the call.
+    fn put(&mut self, rt: &impl Print, kind: u32, text: &[u8]) -> io::Result<()> {
+        let Some(room) = self.log.get_mut(self.end..) else {
+            return Ok(());
+        };
+        let added = sealed::add(&mut self.key, self.chain, kind, text, room);
+        let key = Digest { bytes: self.key };
+        match added {
+            Ok(Added { size, chain }) => {
+                self.chain = chain;
+                self.end = self.end.saturating_add(size as usize);
+                println!(rt; "add 0 {size} {chain} {key}")
+            }
+            Err(error) => println!(rt; "add {} 0 {ZEROS} {key}", number_of(error)),
+        }
     }
-    let chain = l.chain;
-    let r = sealed::add(key, chain, kind, text, &mut bytes[at..]);
-    let adding = r.adding;
-    let n = say_adding(rt, adding)? as usize;
-    let next = r.chain;
-    let value = next.bytes;
-    say(rt, " ")?;
-    say_digest(rt, &value)?;
-    say(rt, " ")?;
-    say_digest(rt, key)?;
-    say(rt, "\n")?;
-    if bytes.len() - at < n {
-        return Ok(l);
-    }
-    Ok(Log {
-        chain: next,
-        at: at + n,
-    })
 }
 
+// The number of a refusal.
+fn number_of(error: AddError) -> u32 {
+    match error {
+        AddError::TooLong => 3,
+        AddError::OutputShort => 6,
+        AddError::Closed => 23,
+    }
+}
+
+// Checks a log. A line has the number answered, and what stands with it.
+fn check(rt: &impl Print, first: Digest, log: &[u8]) -> io::Result<()> {
+    match sealed::check(first, log) {
+        Ok(entries) => println!(rt; "check 0 {entries}"),
+        Err(CheckError::Wrong { entry }) => println!(rt; "check 24 {entry}"),
+        Err(CheckError::Unclosed) => println!(rt; "check 25 0"),
+    }
+}
+
+// Checks the first n bytes.
 fn check_front(rt: &impl Print, first: Digest, bytes: &[u8], n: usize) -> io::Result<()> {
-    if n <= bytes.len() {
-        say_checked(rt, sealed::check(first, &bytes[0..n]))?;
+    match bytes.get(..n) {
+        Some(log) => check(rt, first, log),
+        None => Ok(()),
+    }
+}
+
+// Checks each front part of the log.
+fn check_cut(rt: &impl Print, first: Digest, log: &[u8]) -> io::Result<()> {
+    for n in 0..log.len() {
+        check(rt, first, &log[..n])?;
     }
     Ok(())
 }
 
 // Checks the log with one bit of each byte changed.
-fn check_altered(rt: &impl Print, first: Digest, bytes: &mut [u8]) -> io::Result<()> {
-    for i in 0..bytes.len() {
-        bytes[i] = bytes[i] ^ 1;
-        say_checked(rt, sealed::check(first, bytes))?;
-        bytes[i] = bytes[i] ^ 1;
+fn check_altered(rt: &impl Print, first: Digest, log: &mut [u8]) -> io::Result<()> {
+    for i in 0..log.len() {
+        log[i] ^= 1;
+        check(rt, first, log)?;
+        log[i] ^= 1;
     }
     Ok(())
 }
 
-// Checks each front part of the log.
-fn check_cut(rt: &impl Print, first: Digest, bytes: &[u8]) -> io::Result<()> {
-    for n in 0..bytes.len() {
-        check_front(rt, first, bytes, n)?;
+// Checks the log with 32 bytes of the third entry's data and the 32 behind them exchanged.
+fn check_exchanged(rt: &impl Print, first: Digest, log: &mut [u8]) -> io::Result<()> {
+    if let Some(blocks) = log.get_mut(120..184) {
+        blocks.rotate_left(32);
+        check(rt, first, log)?;
     }
     Ok(())
-}
-
-// Checks the log with 32 bytes and the 32 behind them exchanged.
-fn check_exchanged(rt: &impl Print, first: Digest, bytes: &mut [u8], at: usize) -> io::Result<()> {
-    if bytes.len() < 64 {
-        return Ok(());
-    }
-    if bytes.len() - 64 < at {
-        return Ok(());
-    }
-    let one = lists::row_at(bytes, at);
-    let other = lists::row_at(bytes, at + 32);
-    lists::put(bytes, at, &other, 32);
-    lists::put(bytes, at + 32, &one, 32);
-    say_checked(rt, sealed::check(first, bytes))
-}
-
-// Checks the log cut off and changed.
-fn check_spoiled(rt: &impl Print, first: Digest, log: &mut [u8]) -> io::Result<()> {
-    check_cut(rt, first, log)?;
-    check_altered(rt, first, log)?;
-    check_exchanged(rt, first, log, 120)
-}
-
-// Adds the first three entries.
-fn begin(rt: &impl Print, bytes: &mut [u8], key: &mut [u8; 32]) -> io::Result<Log> {
-    let mut l = Log {
-        chain: Digest { bytes: [0u8; 32] },
-        at: 0,
-    };
-    l = put(rt, l, bytes, key, 2, b"door opened")?;
-    l = put(rt, l, bytes, key, 4294967295, b"")?;
-    put(
-        rt,
-        l,
-        bytes,
-        key,
-        256,
-        b"MONDAY, ROOM 1: LEFT SIDE, UPPER JAW, 2 % LIDOCAINE, LOT 4711, 12 PIECES, MORNING, KEPT AT 4.",
-    )
 }
 
 // Fails only where a line can't be written.
 fn main(rt: HostRuntime) -> io::Result<()> {
-    let mut key = [0x2au8; 32];
+    let key = [0x2a; 32];
     let first = Digest { bytes: key };
-    let mut bytes = [0u8; 320];
-    let mut l = begin(&rt, &mut bytes, &mut key)?;
-    check_front(&rt, first, &bytes, l.at)?;
-    l = put(&rt, l, &mut bytes, &mut key, 1, b"day closed")?;
-    let end = l.at;
-    check_front(&rt, first, &bytes, end)?;
-    if 319 < end {
-        return Ok(());
+    let mut van = Van {
+        key,
+        chain: ZEROS,
+        log: [0; 320],
+        end: 0,
+    };
+    van.put(&rt, 2, b"door opened")?;
+    van.put(&rt, 4294967295, b"")?;
+    van.put(
+        &rt,
+        256,
+        b"MONDAY, ROOM 1: LEFT SIDE, UPPER JAW, 2 % LIDOCAINE, LOT 4711, 12 PIECES, MORNING, KEPT AT 4.",
+    )?;
+    check_front(&rt, first, &van.log, van.end)?;
+    van.put(&rt, 1, b"day closed")?;
+    check_front(&rt, first, &van.log, van.end)?;
+    check_front(&rt, first, &van.log, van.end.saturating_add(1))?;
+    van.put(&rt, 2, b"too late")?;
+    let end = van.end;
+    if let Some(log) = van.log.get_mut(..end) {
+        check_cut(&rt, first, log)?;
+        check_altered(&rt, first, log)?;
+        check_exchanged(&rt, first, log)?;
     }
-    check_front(&rt, first, &bytes, end + 1)?;
-    put(&rt, l, &mut bytes, &mut key, 2, b"too late")?;
-    check_spoiled(&rt, first, &mut bytes[0..end])
+    Ok(())
 }

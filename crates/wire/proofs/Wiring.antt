@@ -1,29 +1,31 @@
 -- Rows read from bytes and written to them, one after the other: one turn of each loop.
-use mathlib.Core.Path.{◌≡◌, sym, ap, ap₂, ◌∙◌}
+use mathlib.Core.Path.{◌≡◌, refl, sym, ap, ap₂, ◌∙◌}
 use mathlib.Core.List.{List, [], ◌∷◌, ◌++◌}
-use Prim.Native.Nat.{ℕ, ◌+◌, ◌*◌, ◌≤◌, ◌<◌, zero-le}
+use Prim.Native.Nat.{ℕ, zero, suc, ◌+◌, ◌*◌, ◌≤◌, ◌<◌, zero-le}
 use native.Mathlib.Numerals.{add-one}
 use native.Mathlib.Omega.{arith}
-use lib.ListN.{length, get_or, set, take, drop, length-append}
-use lib.Seq.{paste, take-suc, take-suc-set, drop-drop}
+use lib.ListN.{length, get_or, take, drop, length-append}
+use lib.Seq.{paste, take-suc, drop-drop}
 use Rattle.lists.specs.Bytes.{Bytes, be}
 use Rattle.lists.specs.Numbers.{be_length}
 use Rattle.hash.specs.declared.Digest.{Digest}
 use Rattle.rules.specs.Held.{Held}
 use Rattle.held.specs.Holding.{bytes_of, rows_of}
-use Rattle.held.proofs.Turns.{no_digest, row_of, rows_set}
+use Rattle.held.proofs.Turns.{no_digest, row_of}
 use Rattle.lists.specs.Pasting.{paste_exact, paste_more}
-use Rattle.wire.specs.Wire.{rows_place, rows_bytes, held_bytes, flat, rows_in, wire_of, flat_more, rows_more}
+use Rattle.wire.specs.Wire.{rows_place, rows_bytes, held_bytes, flat, rows_in, wire_of, flat_more}
 
--- row l, which stands at index at + 32 l, is stored behind those before it
-pub read_turn : (rows : List Digest) (b : Bytes) (at l : ℕ) (d : Digest) → l < length (rows_of rows) → take l (rows_of rows) ≡ rows_in l (drop at b)
-    → bytes_of d ≡ take 32 (drop (at + 32 * l) b) → take (l + 1) (rows_of (set rows l d)) ≡ rows_in (l + 1) (drop at b)
-read_turn rows b at l d h e r =
-    ap₂ {A = ℕ} {B = List Bytes} {C = List Bytes} (λ n x. take n x) (add-one l) (rows_set rows l d)
-    ∙ take-suc-set (rows_of rows) l (bytes_of d) h
-    ∙ ap₂ {A = List Bytes} {B = Bytes} {C = List Bytes} (λ x y. x ++ (y ∷ [])) e (r ∙ ap (take 32) (sym (drop-drop (32 * l) at b)))
-    ∙ sym (rows_more l (drop at b))
-    ∙ ap (λ (n : ℕ). rows_in n (drop at b)) (sym (add-one l))
+-- rows of which each is the one that stands at its place are those that stand in the bytes
+pub all_read : (k : ℕ) (b : Bytes) (rows : List Digest) → length rows ≡ k → ((i : ℕ) → i < k → bytes_of (get_or rows i no_digest) ≡ take 32 (drop (32 * i) b))
+    → rows_of rows ≡ rows_in k b
+unfolding rows_in
+all_read zero b [] e each = refl
+all_read zero b (d ∷ rows) e each = absurd (omega arith)
+all_read (suc k) b [] e each = absurd (omega arith)
+all_read (suc k) b (d ∷ rows) e each =
+    ap₂ {A = Bytes} {B = List Bytes} {C = List Bytes} (λ x xs. x ∷ xs) (each 0 (omega arith))
+    (all_read k (drop 32 b) rows (omega arith)
+    (λ i h. let n : 32 * suc i ≡ 32 + 32 * i = omega arith in each (suc i) (omega arith) ∙ ap (λ (m : ℕ). take 32 (drop m b)) n ∙ ap (take 32) (sym (drop-drop (32 * i) 32 b))))
 
 -- the first l + 1 rows are the first l, and row l behind them
 rows_next : (rows : List Digest) (l : ℕ) → l < length (rows_of rows) → flat (take (l + 1) (rows_of rows)) ≡ flat (take l (rows_of rows)) ++ bytes_of (get_or rows l no_digest)

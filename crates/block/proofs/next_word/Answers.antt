@@ -4,4 +4,4 @@ use Rattle.block.proofs.next_word.Goals as goal
 
 pub returns : goal.returns
 returns c =
-    replaced c.args.i _ _ c.requires.0 c.requires.1 c.later.ensures
+    replaced c.args.i _ _ c.requires c.told-w c.later.ensures

@@ -8,17 +8,4 @@ unfolding round T1 T2
 returns c =
     let a = c.args in
     let v = a.v in
-    rw (
-      c.wrapping_add_u32-4.ensures.value,
-      c.wrapping_add_u32-3.ensures.value,
-      c.wrapping_add_u32-t2.ensures.value,
-      c.maj.ensures,
-      c.big0.ensures,
-      c.wrapping_add_u32-t1.ensures.value,
-      c.big1.ensures,
-      c.wrapping_add_u32-2.ensures.value,
-      c.ch.ensures,
-      c.wrapping_add_u32-p.ensures.value,
-      c.wrapping_add_u32.ensures.value,
-      reordered v.h (Σ1 v.e) (ch v.e v.f v.g) a.k a.w,
-    )
+    rw (c.maj.ensures, c.big0.ensures, c.big1.ensures, c.ch.ensures, reordered v.h (Σ1 v.e) (ch v.e v.f v.g) a.k a.w)

@@ -3,6 +3,7 @@
 use mathlib.Core.Path.{◌≡◌, sym, ap₂, ◌∙◌}
 use Prim.Native.Nat.{ℕ, ◌≤◌}
 use native.Mathlib.Omega.{arith}
+use Rattle.std.proofs.lemmas.Result.{err_from_is_err_and}
 use Rattle.lists.specs.Bytes.{Bytes}
 use Rattle.hash.specs.Hash.{hash_of, hash_length}
 use Rattle.rules.specs.Numbers.{v1}
@@ -17,15 +18,15 @@ use Rattle.build.specs.Parts.{membership_in}
 use Rattle.build.proofs.Asking.{Covers, covers, uncovered, size_told, start_unasked, element_asked}
 use Rattle.build.proofs.Writing.{membership_written}
 use Rattle.build.proofs.membership.Goals as goal
-use Rattle.build.proofs.membership.Goals.{After-membership_len-size, Else-i-eq0, Else-not-covers, In-Count}
+use Rattle.build.proofs.membership.Goals.{After-membership_len-size, Else-i-eq0, Else-not-covers, In_ok-count}
 
 -- ---- what each passed test says, at the place behind it
 
-counted : (c : In-Count) → InOrder c.args.store.now c.in-Count.count
-counted c = in_order c.args.store.now c.count-counted.result c.in-Count.count c.count-counted.ensures c.in-Count.is
+counted : (c : In_ok-count) → InOrder c.args.store.now c.in_ok-count.count
+counted c = in_order c.args.store.now c.count.result c.in_ok-count.count c.count.ensures c.in_ok-count.was
 
 known : (c : Else-not-covers) → let a = c.args in Covers a.store.now a.i.0 a.n.0
-known c = covers _ _ (counted (goal.at.Else-not-covers c).In-Count) _ _ _ c.covers.ensures c.if-not-covers.false
+known c = covers _ _ (counted (goal.at.Else-not-covers c).In_ok-count) _ _ _ c.covers.ensures c.if-not-covers.false
 
 low : (c : Else-i-eq0) → 1 ≤ c.args.i.0
 low c = omega (arith, c.if-i-eq0.false)
@@ -33,21 +34,22 @@ low c = omega (arith, c.if-i-eq0.false)
 sized : (c : After-membership_len-size) → let a = c.args in c.membership_len-size.result ≡ total v1 (path a.i.0 a.n.0)
 sized c = let k = known (goal.at.After-membership_len-size c).Else-not-covers in size_told c.membership_len-size.ensures (between_test v1 _ _ (low (goal.at.After-membership_len-size c).Else-i-eq0) k.up k.few)
 
-pub returns-in_default : goal.returns-in_default
-returns-in_default c =
+pub returns-in_err-count : goal.returns-in_err-count
+returns-in_err-count c =
     let a = c.args in
     let s = a.store.now in
-    sym (build_damaged v1 s _ _ _ a.out.now (broken s c.count-counted.result c.count-counted.ensures c.in_default.in_default-own.keys2))
+    let p = err_from_is_err_and c.from_residual.result c.from_residual.ensures.1 in
+    rw (p.1, p.2) (sym (build_damaged v1 s _ _ _ a.out.now (broken s c.count.result _ c.count.ensures c.in_err-count.was)))
 
 pub returns-then-i-eq0 : goal.returns-then-i-eq0
 returns-then-i-eq0 c =
     let a = c.args in
-    sym (build_unasked v1 a.store.now _ _ _ a.out.now (counted (goal.at.returns-then-i-eq0 c).In-Count).sound (start_unasked a.i.0 _ c.if-i-eq0.true))
+    sym (build_unasked v1 a.store.now _ _ _ a.out.now (counted (goal.at.returns-then-i-eq0 c).In_ok-count).sound (start_unasked a.i.0 _ c.if-i-eq0.true))
 
 pub returns-then-not-covers : goal.returns-then-not-covers
 returns-then-not-covers c =
     let a = c.args in
-    let k = counted (goal.at.returns-then-not-covers c).In-Count in
+    let k = counted (goal.at.returns-then-not-covers c).In_ok-count in
     sym (build_unasked v1 a.store.now _ _ _ a.out.now k.sound
     (element_asked a.i.0 _ _ c.if-i-eq0.false (uncovered _ _ k a.i.0 a.n.0 _ c.covers.ensures c.if-not-covers.true)))
 

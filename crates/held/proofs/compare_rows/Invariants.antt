@@ -1,16 +1,12 @@
--- `held::compare_rows` meets its contract: what the rows from c up say is what all of them say, as long as each was good and in use.
-use mathlib.Core.Path.{◌≡◌}
-use Prim.Native.Nat.{suc, ◌-◌, ◌*◌, ◌^◌}
-use lib.ListN.{length, drop}
-use Rattle.rules.specs.Numbers.{v1}
+-- `held::compare_rows` meets its contract: what the rows from a row up say is what all of them say, as long as each was good and in use.
+use Rattle.std.proofs.Common.{◌≡◌, suc, ◌+◌, ◌*◌, ◌/◌, ◌^◌, length, drop}
 use Rattle.held.specs.Holding.{rows_of}
 use Rattle.held.specs.Rows.{rows_say}
 use Rattle.held.proofs.compare_rows.Given as goal
 
 abbrev pub invariant-loop-c : goal.invariant-loop-c
-invariant-loop-c l = (length (rows_of l.rows) ≡ v1.levels)
-    × (suc l.initial.q * 2 ^ l.initial.c ≡ suc l.q * 2 ^ l.c)
-    × (rows_say l.initial.c l.initial.q (drop l.initial.c (rows_of l.rows)) l.component ≡ rows_say l.c l.q (drop l.c (rows_of l.rows)) l.component)
-
-abbrev pub decreases-loop-c : goal.decreases-loop-c
-decreases-loop-c l = v1.levels - l.c
+invariant-loop-c l =
+    let c = l.level + length l.yielded in
+    let q = l.h.count.0 / 2 ^ l.level in
+    (suc q * 2 ^ l.level ≡ suc l.q * 2 ^ c)
+    × (rows_say l.level q (drop l.level (rows_of l.h.rows)) l.component ≡ rows_say c l.q (drop c (rows_of l.h.rows)) l.component)

@@ -1,9 +1,5 @@
 -- `hmac::code` meets its contract: the message is hashed behind the first pad, and its digest behind the second.
-use mathlib.Core.Path.{◌≡◌, ap, ap₂, ◌∙◌}
-use mathlib.Core.List.{◌++◌}
-use Prim.Native.Nat.{◌+◌, ◌≤◌}
-use native.Mathlib.Omega.{arith}
-use lib.ListN.{length}
+use Rattle.std.proofs.Common.{◌≡◌, ◌≤◌, ◌+◌, ◌++◌, ◌∙◌, length, ap, ap₂, arith}
 use Rattle.lists.specs.Bytes.{Bytes}
 use Rattle.hash.specs.Hash.{hash_of, hash_length}
 use Rattle.hash.specs.Joined.{joined_of, joined_short}
@@ -23,4 +19,4 @@ coded key m block first second inside r eb ef es ei er h k =
 
 pub returns : goal.returns
 returns c =
-    coded _ _ _ _ _ _ _ c.key_block-block.ensures c.pad-first.ensures c.pad-second.ensures c.joined.ensures c.joined-2.ensures (omega arith) (omega arith)
+    coded _ _ _ _ _ _ _ c.key_block-block.ensures c.pad.ensures c.pad-2.ensures c.joined-inside.ensures c.joined.ensures (omega arith) (omega arith)

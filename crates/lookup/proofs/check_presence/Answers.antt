@@ -1,38 +1,39 @@
 -- `lookup::check_presence` meets its contract: each return fixes the tests of the definition up to it.
-use mathlib.Core.Path.{◌≡◌, refl, sym, ap, ◌∙◌}
-use mathlib.Core.Bool.{false}
-use native.Mathlib.Omega.{arith}
-use borrow.Author.Tests.{lt-ltb, le-ltb, eq-eqb, ne_eqb}
+use Rattle.std.proofs.Common.{rules, ◌≡◌, refl, sym, ap, ◌∙◌, arith}
+use Rattle.std.specs.Prelude.{Err}
+use borrow.Author.Tests.{eq-eqb, ne_eqb}
 use Rattle.lists.specs.Bytes.{Bytes, same}
 use Rattle.hash.specs.Hash.{hash_of}
-use Rattle.rules.specs.Numbers.{entry_limit}
 use Rattle.dictionary.specs.Handles.{handle, rows_of}
 use Rattle.dictionary.specs.Trie.{climbed, shown_full}
-use Rattle.dictionary.specs.Calls.{key_long}
 use Rattle.dictionary.proofs.Answers.{presence_is}
+use Rattle.handles.proofs.Asked.{Given, given, refused}
+use Rattle.lookup.specs.declared.LookupError.TheVariants.{KeyTooLong}
 use Rattle.lookup.specs.Told.{verdict_number}
 use Rattle.lookup.proofs.check_presence.Goals as goal
-use Rattle.lookup.proofs.check_presence.Goals.{After-leads_to, Else-key-gt-KEY_LIMIT}
+use Rattle.lookup.proofs.check_presence.Goals.{After-leads_to, In_ok-handle}
 
-short : (c : Else-key-gt-KEY_LIMIT) → key_long c.args.key.now ≡ false
-short c = le-ltb entry_limit _ c.if-key-gt-KEY_LIMIT.false
+key : (c : In_ok-handle) → Given c.args.key.now c.in_ok-handle.handle
+key c = given _ _ c.in_ok-handle.ensures
 
 told : (c : After-leads_to) → let a = c.args in same (shown_full hash_of (handle hash_of a.key.now) (rows_of a.proof.now)) a.root.bytes ≡ c.leads_to.result
 told c =
     let a = c.args in
-    let k = c.handle_for-handle.result.bytes in
     let p = rows_of a.proof.now in
     sym (c.leads_to.ensures
-    ∙ ap (λ (x : Bytes). same (climbed hash_of 256 k p x) a.root.bytes) c.leaf_of.ensures
-    ∙ ap (λ (x : Bytes). same (shown_full hash_of x p) a.root.bytes) c.handle_for-handle.ensures)
+    ∙ ap (λ (x : Bytes). same (climbed hash_of 256 c.in_ok-handle.handle.bytes p x) a.root.bytes) c.leaf.ensures
+    ∙ ap (λ (x : Bytes). same (shown_full hash_of x p) a.root.bytes) (key (goal.at.After-leads_to c).In_ok-handle).is)
 
-pub returns-then-key-gt-KEY_LIMIT : goal.returns-then-key-gt-KEY_LIMIT
+pub returns-in_err-handle : goal.returns-in_err-handle
 unfolding verdict_number
-returns-then-key-gt-KEY_LIMIT c = sym (presence_is hash_of _ _ _ (lt-ltb entry_limit _ c.if-key-gt-KEY_LIMIT.true) refl refl)
+returns-in_err-handle c =
+    let r : c.from_residual.result ≡ Err KeyTooLong = search rules in
+    ap verdict_number r ∙ sym (presence_is hash_of _ _ _ (refused _ _ c.in_err-handle.ensures) refl refl)
 
 pub returns-then-proof-ne-LONGEST : goal.returns-then-proof-ne-LONGEST
 unfolding verdict_number
-returns-then-proof-ne-LONGEST c = sym (presence_is hash_of _ _ _ (short (goal.at.returns-then-proof-ne-LONGEST c).Else-key-gt-KEY_LIMIT) (ne_eqb _ _ c.if-proof-ne-LONGEST.true) refl)
+returns-then-proof-ne-LONGEST c =
+    sym (presence_is hash_of _ _ _ (key (goal.at.returns-then-proof-ne-LONGEST c).In_ok-handle).short (ne_eqb _ _ c.if-proof-ne-LONGEST.true) refl)
 
 pub leads_to-requires : goal.leads_to-requires
 leads_to-requires c = let e = c.if-proof-ne-LONGEST.false in record { whole = omega arith; most = omega arith }
@@ -40,9 +41,11 @@ leads_to-requires c = let e = c.if-proof-ne-LONGEST.false in record { whole = om
 pub returns-then-not-leads_to : goal.returns-then-not-leads_to
 unfolding verdict_number
 returns-then-not-leads_to c =
-    sym (presence_is hash_of _ _ _ (short (goal.at.returns-then-not-leads_to c).Else-key-gt-KEY_LIMIT) (eq-eqb _ _ c.if-proof-ne-LONGEST.false) (told (goal.at.returns-then-not-leads_to c).After-leads_to ∙ c.if-not-leads_to.true))
+    let s = goal.at.returns-then-not-leads_to c in
+    sym (presence_is hash_of _ _ _ (key s.In_ok-handle).short (eq-eqb _ _ c.if-proof-ne-LONGEST.false) (told s.After-leads_to ∙ c.if-not-leads_to.true))
 
 pub returns : goal.returns
 unfolding verdict_number
 returns c =
-    sym (presence_is hash_of _ _ _ (short (goal.at.returns c).Else-key-gt-KEY_LIMIT) (eq-eqb _ _ c.if-proof-ne-LONGEST.false) (told (goal.at.returns c).After-leads_to ∙ c.if-not-leads_to.false))
+    let s = goal.at.returns c in
+    sym (presence_is hash_of _ _ _ (key s.In_ok-handle).short (eq-eqb _ _ c.if-proof-ne-LONGEST.false) (told s.After-leads_to ∙ c.if-not-leads_to.false))

@@ -1,13 +1,8 @@
 -- `lookup::leads_to` meets its contract: what the siblings come to is compared with the root.
-use mathlib.Core.Path.{ap, ◌∙◌}
-use Prim.Native.Nat.{zero-le}
+use Rattle.std.proofs.Common.{ap, ◌∙◌}
 use Rattle.lists.specs.Bytes.{Bytes, same}
+use Rattle.handles.proofs.Listing.{same_tests}
 use Rattle.lookup.proofs.leads_to.Goals as goal
 
-pub climb-top-requires : goal.climb-top-requires
-climb-top-requires c = (c.requires, zero-le)
-
 pub returns : goal.returns
-returns c =
-    let a = c.args in
-    c.same.ensures ∙ ap (λ (x : Bytes). same x a.root.bytes) c.climb-top.ensures
+returns c = c.eq.ensures ∙ same_tests c.climb.result.bytes c.args.root.bytes ∙ ap (λ (x : Bytes). same x c.args.root.bytes) c.climb.ensures

@@ -43,8 +43,8 @@ module _ (p : Bytes) (n : ℕ) (w : Walk) (l : ℕ) (to : Position) (x : Bytes) 
       eb
       ∙ ap₂ (λ (c : Bytes) (r : ℕ). same (row v1 c r) w.digest.bytes) (f.here ∙ ap (part v1 p w.next) f.reached) (add-one l ∙ ap suc f.level)
 
-  differs : b ≡ false → record { verdict = Link to.0 l; state = w } ≡ hop_of p n w
-  differs e = ap₂ (λ (j k : ℕ). record { verdict = Link j k; state = w }) f.reached f.level ∙ sym (hop_bad p n w (sym tested ∙ e))
+  differs : (k : ℕ) → k ≡ l → b ≡ false → record { verdict = Link to.0 k; state = w } ≡ hop_of p n w
+  differs k ek e = ap₂ (λ (j m : ℕ). record { verdict = Link j m; state = w }) f.reached (ek ∙ f.level) ∙ sym (hop_bad p n w (sym tested ∙ e))
 
   made : ℕ → Bytes → ℕ → Hopped
   made j d next = record { verdict = Good; state = record { at = record { 0 = j }; digest = record { bytes = d }; next = next } }
@@ -66,18 +66,16 @@ there c =
     let h = c.hop-r.ensures in
     found a.proof.now a.n.0 a.w _ _ _ (omega arith) (omega arith) h.0 h.1 c.component_at-component.ensures
 
-pub component_at-component-requires : goal.component_at-component-requires
-component_at-component-requires c = let e = ap (size v1) c.hop-r.ensures.1 in omega arith
-
 pub row_is-requires : goal.row_is-requires
 row_is-requires c = omega (arith, (there (goal.at.row_is-requires c).After-component_at-component).linked)
 
 pub returns-then-not-row_is : goal.returns-then-not-row_is
-returns-then-not-row_is c = differs _ _ _ _ _ _ (there (goal.at.returns-then-not-row_is c).After-component_at-component) _ c.row_is.ensures (c.if-not-row_is.true)
+returns-then-not-row_is c =
+    differs _ _ _ _ _ _ (there (goal.at.returns-then-not-row_is c).After-component_at-component) _ c.row_is.ensures _ c.from.ensures c.if-not-row_is.true
 
 pub element_digest-requires : goal.element_digest-requires
 element_digest-requires c = omega (arith, (there (goal.at.element_digest-requires c).After-component_at-component).sized, size_short c.hop-r.result.to.0)
 
 pub returns : goal.returns
 returns c =
-    agrees _ _ _ _ _ _ (there (goal.at.returns c).After-component_at-component) _ c.row_is.ensures _ c.element_digest.ensures (c.if-not-row_is.false)
+    agrees _ _ _ _ _ _ (there (goal.at.returns c).After-component_at-component) _ c.row_is.ensures _ c.element_digest.ensures c.if-not-row_is.false

@@ -1,7 +1,7 @@
 -- `place::find` meets its contract: what differs further on goes before what was found so far.
 use mathlib.Core.Path.{◌≡◌, sym, ap, ap₂, ◌∙◌}
 use mathlib.Core.Option.{Option}
-use Prim.Native.Nat.{ℕ, ◌+◌, ◌-◌, ◌^◌, ◌≤◌, ◌<◌}
+use Prim.Native.Nat.{ℕ, ◌+◌, ◌^◌, ◌≤◌, ◌<◌}
 use native.Mathlib.Nat.{zero-add}
 use native.Mathlib.Omega.{arith}
 use lib.Pow.{pow_pos}
@@ -15,6 +15,7 @@ use Rattle.rules.proofs.Hops.{level_hop}
 use Rattle.rules.proofs.Bounds.{total_first, total_after_step}
 use Rattle.rules.proofs.Spots.{nearest_start, nearest_step, nearest_end}
 use Rattle.place.specs.Places.{spot_of}
+use Rattle.place.proofs.Spotting.{either_spot}
 use Rattle.place.proofs.find.Invariants.{Seen}
 use Rattle.place.proofs.find.Goals as goal
 use Rattle.place.proofs.find.Goals.{After-component_len-at-in-loop-j}
@@ -62,11 +63,11 @@ module _ (n : ℕ) (p q : Bytes) (i : ℕ) where
 on : (c : After-component_len-at-in-loop-j) →
     let a = c.args in
     let l = c.loop-j in
-    let to = c.hop-r.result.to.0 in
-    Seen a.n.0 a.first.now a.second.now a.i.0 (spot_of c.either-found.result) (l.at + c.component_len-at-in-loop-j.result) to × (l.j.0 < to)
+    let to = c.hop.result.to.0 in
+    Seen a.n.0 a.first.now a.second.now a.i.0 (spot_of c.or-spot.result) (l.at + c.component_len-at-in-loop-j.result) to × (l.j.0 < to)
 on c =
     let l = c.loop-j in
-    goes_on _ _ _ _ _ _ _ l.invariant c.loop-j-test.true _ c.hop-r.ensures.1 _ c.component_len-at-in-loop-j.ensures c.look.ensures c.either-found.ensures
+    goes_on _ _ _ _ _ _ _ l.invariant c.loop-j-test.true _ c.hop.ensures.1 _ c.component_len-at-in-loop-j.ensures c.look.ensures (ap spot_of c.or-spot.ensures ∙ either_spot _ _)
 
 pub look-spot-requires : goal.look-spot-requires
 look-spot-requires c = let a = c.args in let f = total_first v1 a.i.0 a.n.0 in (omega arith, omega arith)
@@ -79,7 +80,7 @@ loop-j-init c =
 pub look-requires : goal.look-requires
 look-requires c =
     let l = c.loop-j in
-    room _ _ _ _ _ l.at _ l.invariant c.loop-j-test.true _ c.hop-r.ensures.1
+    room _ _ _ _ _ l.at _ l.invariant c.loop-j-test.true _ c.hop.ensures.1
 
 pub overflow_add-at : goal.overflow_add-at
 overflow_add-at c = omega (arith, (on (goal.at.overflow_add-at c).After-component_len-at-in-loop-j).0.first_left)

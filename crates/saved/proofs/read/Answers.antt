@@ -54,36 +54,33 @@ judged c b e =
 pub returns-then-file-lt-HEAD : goal.returns-then-file-lt-HEAD
 returns-then-file-lt-HEAD c =
     let f = c.args.file.now in
-    c.refused.ensures ∙ sym (read_is hash_of v1 f (lt-ltb _ _ c.if-file-lt-HEAD.true) refl refl refl refl refl)
+    sym (read_is hash_of v1 f (lt-ltb _ _ c.if-file-lt-HEAD.true) refl refl refl refl refl)
 
 pub returns-then-not-is_marked : goal.returns-then-not-is_marked
 returns-then-not-is_marked c =
     let f = c.args.file.now in
-    c.refused-then-not-is_marked.ensures ∙ sym (read_is hash_of v1 f (long (goal.at.returns-then-not-is_marked c).Else-file-lt-HEAD) (sym c.is_marked.ensures ∙ c.if-not-is_marked.true) refl refl refl refl)
+    sym (read_is hash_of v1 f (long (goal.at.returns-then-not-is_marked c).Else-file-lt-HEAD) (sym c.is_marked.ensures ∙ c.if-not-is_marked.true) refl refl refl refl)
 
 pub returns-then-not-is_of_version : goal.returns-then-not-is_of_version
 returns-then-not-is_of_version c =
     let f = c.args.file.now in
-    c.refused-then-not-is_of_version.ensures
-    ∙ sym (read_is hash_of v1 f (long (goal.at.returns-then-not-is_of_version c).Else-file-lt-HEAD) (marked (goal.at.returns-then-not-is_of_version c).Else-not-is_marked) (sym c.is_of_version.ensures ∙ c.if-not-is_of_version.true) refl refl refl)
+    sym (read_is hash_of v1 f (long (goal.at.returns-then-not-is_of_version c).Else-file-lt-HEAD) (marked (goal.at.returns-then-not-is_of_version c).Else-not-is_marked) (sym c.is_of_version.ensures ∙ c.if-not-is_of_version.true) refl refl refl)
 
 pub returns-then-count-gt-LIMIT : goal.returns-then-count-gt-LIMIT
 returns-then-count-gt-LIMIT c =
     let f = c.args.file.now in
-    c.refused-then-count-gt-LIMIT.ensures
-    ∙ sym (read_is hash_of v1 f (long (goal.at.returns-then-count-gt-LIMIT c).Else-file-lt-HEAD) (marked (goal.at.returns-then-count-gt-LIMIT c).Else-not-is_marked) (versioned (goal.at.returns-then-count-gt-LIMIT c).Else-not-is_of_version) (lt-leb (count_in f) (limit v1) (omega (arith, c.if-count-gt-LIMIT.true, c.number_at.ensures))) refl refl)
+    sym (read_is hash_of v1 f (long (goal.at.returns-then-count-gt-LIMIT c).Else-file-lt-HEAD) (marked (goal.at.returns-then-count-gt-LIMIT c).Else-not-is_marked) (versioned (goal.at.returns-then-count-gt-LIMIT c).Else-not-is_of_version) (lt-leb (count_in f) (limit v1) (omega (arith, c.if-count-gt-LIMIT.true, c.number_at.ensures))) refl refl)
 
 pub returns-then-file-file_len : goal.returns-then-file-file_len
 returns-then-file-file_len c =
     let f = c.args.file.now in
-    c.refused-then-file-file_len.ensures
-    ∙ sym (read_is hash_of v1 f (long (goal.at.returns-then-file-file_len c).Else-file-lt-HEAD) (marked (goal.at.returns-then-file-file_len c).Else-not-is_marked) (versioned (goal.at.returns-then-file-file_len c).Else-not-is_of_version) (few (goal.at.returns-then-file-file_len c).Else-count-gt-LIMIT) (ne_eqb (length f) (file_size (count_in f)) (λ g. omega (arith, c.if-file-file_len.true, size (goal.at.returns-then-file-file_len c).After-file_len))) refl)
+    sym (read_is hash_of v1 f (long (goal.at.returns-then-file-file_len c).Else-file-lt-HEAD) (marked (goal.at.returns-then-file-file_len c).Else-not-is_marked) (versioned (goal.at.returns-then-file-file_len c).Else-not-is_of_version) (few (goal.at.returns-then-file-file_len c).Else-count-gt-LIMIT) (ne_eqb (length f) (file_size (count_in f)) (λ g. omega (arith, c.if-file-file_len.true, size (goal.at.returns-then-file-file_len c).After-file_len))) refl)
 
 pub held_in-state-requires : goal.held_in-state-requires
 held_in-state-requires c = sized (goal.at.held_in-state-requires c).Else-file-file_len
 
 pub returns-then-not-is_in_order : goal.returns-then-not-is_in_order
-returns-then-not-is_in_order c = c.refused-then-not-is_in_order.ensures ∙ sym (judged (goal.at.returns-then-not-is_in_order c).After-is_in_order false (c.if-not-is_in_order.true))
+returns-then-not-is_in_order c = sym (judged (goal.at.returns-then-not-is_in_order c).After-is_in_order false (c.if-not-is_in_order.true))
 
 pub returns : goal.returns
 returns c = ap (held_found done) c.held_in-state.ensures ∙ sym (judged (goal.at.returns c).After-is_in_order true (c.if-not-is_in_order.false))

@@ -1,12 +1,14 @@
--- `sha256::chain` meets its contract: with i bytes behind it, the hash value is that after i / 64 blocks.
-use mathlib.Core.Path.{◌≡◌}
-use Prim.Native.Nat.{◌-◌, ◌/◌, ◌%◌, ◌≤◌}
-use lib.ListN.{length}
+-- `sha256::chain` meets its contract: with k blocks behind it, the hash value is that after k blocks.
+use Rattle.std.proofs.Common.{◌≡◌, ◌*◌, ◌≤◌, length, drop}
+use Rattle.std.specs.Slice.Iter.{chunks_exact_rest, chunks_exact_size}
 use Rattle.fips.specs.Sha256.{chained}
 use Rattle.sha256.proofs.chain.Given as goal
 
-abbrev pub invariant-loop-i : goal.invariant-loop-i
-invariant-loop-i l = (l.i ≤ length l.bytes) × (l.i % 64 ≡ 0) × (l.v ≡ chained l.initial.v (l.i / 64) l.bytes)
-
-abbrev pub decreases-loop-i : goal.decreases-loop-i
-decreases-loop-i l = length l.bytes - l.i
+abbrev pub invariant-loop-block : goal.invariant-loop-block
+invariant-loop-block l =
+    record {
+      size : chunks_exact_size l.block-iterator ≡ 64;
+      fits : 64 * length l.yielded ≤ length l.bytes;
+      at : chunks_exact_rest l.block-iterator ≡ drop (64 * length l.yielded) l.bytes;
+      value : l.v ≡ chained l.initial.v (length l.yielded) l.bytes;
+    }

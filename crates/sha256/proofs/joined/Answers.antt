@@ -1,10 +1,11 @@
 -- `sha256::joined` meets its contract: the whole blocks of the first string are chained, and what is left of it stands before the second.
 use mathlib.Core.Path.{sym, ap, ◌∙◌}
+use Rattle.std.specs.Prelude.{Ok}
 use mathlib.Core.List.{◌++◌}
 use native.Mathlib.Omega.{arith}
 use lib.ListN.{length-append}
 use Rattle.sha256.specs.Ending.{ended_all}
-use Rattle.sha256.specs.Outcomes.{answered, hashed_long, hashed_fits}
+use Rattle.sha256.specs.Outcomes.{hashed_long, hashed_fits}
 use Rattle.sha256.proofs.Feeding.{ended_rest}
 use Rattle.sha256.proofs.joined.Goals as goal
 
@@ -24,6 +25,6 @@ returns c =
     let x = a.first.now in
     let y = a.second.now in
     let l = length-append x y in
-    ap (answered 0)
-    (ended_all _ _ (x ++ y) _ _ c.first.ensures (sym l) (ended_rest _ _ _ x y _ c.chain-words.ensures c.ended_by-last.ensures) c.bytes_of-digest.ensures)
+    ap Ok
+    (ended_all _ _ (x ++ y) _ _ c.first.ensures (sym l) (ended_rest _ _ _ x y _ c.chain-words.ensures c.ended_by-last.ensures) c.bytes_of.ensures)
     ∙ sym (hashed_fits (x ++ y) (omega arith))

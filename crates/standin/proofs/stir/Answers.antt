@@ -1,13 +1,7 @@
 -- `standin::stir` meets its contract: what is left is stirred into what there is.
-use mathlib.Core.Path.{◌≡◌, refl, sym, ◌∙◌}
-use Prim.Native.Nat.{ℕ, ◌+◌, ◌-◌, ◌%◌, ◌≤◌, ◌<◌}
-use native.Mathlib.Omega.{arith}
-use native.Mathlib.Numerals.{add-one}
-use lib.ListN.{length, get_or, drop, drop_of_length-le, length-set}
-use lib.Seq.{drop-cons}
+use Rattle.std.proofs.Common.{◌≡◌, ◌+◌, ◌%◌, ◌≤◌, ◌<◌, ℕ, refl, sym, ◌∙◌, add-one, arith, rules, length, get_or, drop, drop-cons, drop_of_length-le, length-set}
 use Rattle.lists.specs.Bytes.{Bytes}
 use Rattle.standin.specs.Stirred.{xor_at, stirred}
-use Rattle.std.proofs.Common.{rules}
 use Rattle.standin.proofs.stir.Goals as goal
 
 -- one byte of the definition, at the code's index
@@ -19,16 +13,16 @@ done : (s out : Bytes) (k i : ℕ) → length s ≤ i → stirred k out (drop i 
 unfolding stirred
 done s out k i h = rw (drop_of_length-le s {i = i} h)
 
-pub loop-i-init : goal.loop-i-init
-loop-i-init c = (omega arith, omega arith, search rules, refl)
+pub loop-byte-init : goal.loop-byte-init
+loop-byte-init c = (omega arith, search rules, refl)
 
-pub loop-i-preserved : goal.loop-i-preserved
-loop-i-preserved c =
-    let l = c.loop-i in
+pub loop-byte-preserved : goal.loop-byte-preserved
+loop-byte-preserved c =
+    let l = c.loop-byte in
     let a = c.args in
-    (omega arith, omega arith, simp length-set l.invariant.2, l.invariant.3 ∙ step a.s.now l.out l.k l.i (omega arith))
+    (omega arith, simp length-set l.invariant.1, l.invariant.2 ∙ step a.s.now l.out l.k _ (omega arith))
 
 pub returns : goal.returns
 returns c =
-    let l = c.loop-i in
-    sym (l.invariant.3 ∙ done c.args.s.now l.out l.k l.i (omega arith))
+    let l = c.loop-byte in
+    sym (l.invariant.2 ∙ done c.args.s.now l.out l.k _ c.loop-byte-test.false)

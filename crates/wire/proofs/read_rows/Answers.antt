@@ -1,33 +1,19 @@
--- `wire::read_rows` meets its contract: after l turns the first l rows are those that stand in the bytes.
-use mathlib.Core.Path.{◌≡◌, refl, sym, ap, ◌∙◌}
-use Prim.Native.Nat.{ℕ, ◌-◌}
-use native.Mathlib.Omega.{arith}
-use lib.ListN.{length, drop, length-set}
-use lib.Seq.{take_all}
+-- `wire::read_rows` meets its contract: each row is the one that stands at its place in the bytes.
+use Rattle.std.proofs.Common.{rules, of_calls, ◌≡◌, ◌<◌, ◌+◌, ◌*◌, ℕ, slice_index_or, take, drop, arith, refl, sym, ap, ◌∙◌}
+use Rattle.std.proofs.Math.Seq.{drop-drop}
 use Rattle.hash.specs.declared.Digest.{Digest}
-use Rattle.rules.specs.Numbers.{v1}
-use Rattle.held.specs.Holding.{rows_of}
-use Rattle.held.proofs.Turns.{rows_set}
-use Rattle.wire.specs.Wire.{rows_place, rows_in}
-use Rattle.wire.proofs.Wiring.{read_turn}
+use Rattle.held.specs.Holding.{bytes_of}
+use Rattle.held.proofs.Turns.{no_digest}
+use Rattle.held.proofs.Making.{all_made}
+use Rattle.wire.specs.Wire.{rows_place}
+use Rattle.wire.proofs.Wiring.{all_read}
 use Rattle.wire.proofs.read_rows.Goals as goal
-
-pub loop-l-init : goal.loop-l-init
-unfolding rows_in
-loop-l-init c = (omega arith, refl, refl)
-
-pub loop-l-preserved : goal.loop-l-preserved
-loop-l-preserved c =
-    let l = c.loop-l in
-    let row : Digest = record { bytes = c.row_at-row.result } in
-    let b = c.args.bytes.now in (
-      omega arith,
-      ap length (rows_set l.rows l.l row) ∙ length-set (rows_of l.rows) l.l c.row_at-row.result ∙ l.invariant.1,
-      read_turn l.rows b rows_place l.l row (omega arith) l.invariant.2 c.row_at-row.ensures,
-    )
 
 pub returns : goal.returns
 returns c =
-    let l = c.loop-l in
-    let e : l.l ≡ v1.levels = omega arith in
-    sym (take_all l.l (rows_of l.rows) (omega arith)) ∙ l.invariant.2 ∙ ap (λ (k : ℕ). rows_in k (drop rows_place c.args.bytes.now)) e
+    let b = c.args.bytes.now in
+    let P = λ (i : ℕ) (d : Digest). bytes_of d ≡ take 32 (drop (rows_place + 32 * i) b) in
+    let each : (i : ℕ) → i < 32 → P i (slice_index_or c.from_fn.result i no_digest) =
+    λ i h. all_made _ (λ f. f.0.now ≡ b) P (λ f i d after kept call. let met = call.met in search (of_calls, rules)) 32 _ _ 0 refl
+    c.from_fn.ensures.items.each i (omega arith) (omega arith) no_digest in
+    all_read 32 (drop rows_place b) c.from_fn.result c.from_fn.ensures.items.long (λ i h. each i h ∙ ap (take 32) (sym (drop-drop (32 * i) rows_place b)))

@@ -24,25 +24,7 @@ pub full_message-found-requires : goal.full_message-found-requires
 full_message-found-requires c = (c.requires.0, omega (arith, c.requires.1.most))
 
 pub loop-depth-init : goal.loop-depth-init
-loop-depth-init c = begins c.args.key.bytes c.args.presence.now c.args.absence.now _ _ _ c.leaf_of.ensures c.climb-full.ensures (at_bottom _ c.args.absence.now _) c.full_message-found.ensures
-
-pub overflow_sub-depth-in-loop-depth : goal.overflow_sub-depth-in-loop-depth
-overflow_sub-depth-in-loop-depth c = omega (arith, deep (goal.at.overflow_sub-depth-in-loop-depth c).In-loop-depth)
-
-pub sibling_at-requires : goal.sibling_at-requires
-sibling_at-requires c = let e = c.requires.0 in (full_sized _ e, omega (arith, deep (goal.at.sibling_at-requires c).In-loop-depth, c.loop-depth-test.true))
-
-pub overflow_sub-depth-in-loop-depth-2 : goal.overflow_sub-depth-in-loop-depth-2
-overflow_sub-depth-in-loop-depth-2 c = omega (arith, deep (goal.at.overflow_sub-depth-in-loop-depth-2 c).In-loop-depth)
-
-pub sibling_at-requires-in-loop-depth : goal.sibling_at-requires-in-loop-depth
-sibling_at-requires-in-loop-depth c = (c.requires.1, omega (arith, c.loop-depth.invariant.below, c.loop-depth-test.true))
-
-pub compare-next-requires : goal.compare-next-requires
-compare-next-requires c = c.loop-depth.invariant.found.fits
-
-pub loop-depth-smaller : goal.loop-depth-smaller
-loop-depth-smaller c = omega (arith, c.loop-depth-test.true)
+loop-depth-init c = begins c.args.key.bytes c.args.presence.now c.args.absence.now _ _ _ c.leaf.ensures c.climb-full.ensures (at_bottom _ c.args.absence.now _) c.full_message-found.ensures
 
 pub loop-depth-preserved : goal.loop-depth-preserved
 loop-depth-preserved c =
@@ -65,12 +47,9 @@ loop-depth-preserved c =
       below = omega arith;
       full_is = c.digest_of-full.ensures ∙ ap hash_of c.crossing-a.ensures ∙ up_one k p _ _ _ d zp hp c.sibling_at.ensures ef;
       empty_is = c.digest_of-empty.ensures ∙ ap hash_of c.crossing-b.ensures ∙ up_one k q _ _ _ d c.requires.1 hq c.sibling_at-in-loop-depth.ensures ee;
-      found = record {
-        told = c.compare-next.ensures.told
-            ∙ meet_step k p q _ _ _ _ _ _ d _ zp c.requires.1 hp hq ef ee c.sibling_at.ensures c.sibling_at-in-loop-depth.ensures
-            c.crossing-a.ensures c.crossing-b.ensures (s.found.told ∙ ap (λ (n : ℕ). meeting hash_of (256 - n) k (drop n (rows_of p)) (drop n (rows_of q))) e);
-        fits = c.compare-next.ensures.fits;
-      };
+      found = c.compare-found.ensures
+          ∙ meet_step k p q _ _ _ _ _ _ d _ zp c.requires.1 hp hq ef ee c.sibling_at.ensures c.sibling_at-in-loop-depth.ensures
+          c.crossing-a.ensures c.crossing-b.ensures (s.found ∙ ap (λ (n : ℕ). meeting hash_of (256 - n) k (drop n (rows_of p)) (drop n (rows_of q))) e);
     }
 
 pub returns : goal.returns
@@ -78,8 +57,4 @@ returns c =
     let a = c.args in
     let l = c.loop-depth in
     let e : l.depth ≡ 0 = omega (arith, c.loop-depth-test.false) in
-    let f = l.invariant.found in
-    record {
-      told = f.told ∙ ap (λ (n : ℕ). meeting hash_of (256 - n) a.key.bytes (drop n (rows_of a.presence.now)) (drop n (rows_of a.absence.now))) e;
-      fits = f.fits;
-    }
+    l.invariant.found ∙ ap (λ (n : ℕ). meeting hash_of (256 - n) a.key.bytes (drop n (rows_of a.presence.now)) (drop n (rows_of a.absence.now))) e

@@ -4,14 +4,14 @@ use mathlib.Core.List.{◌++◌}
 use mathlib.Core.Option.{some}
 use Prim.Native.Nat.{◌+◌}
 use lib.ListN.{length, length-append}
+use Rattle.std.specs.Prelude.{Some, Ok}
 use Rattle.lists.specs.Bytes.{Bytes}
 use Rattle.rules.specs.Calls.{over, showing}
 use Rattle.dispute.specs.Answers.{finding_of, outcome}
-use Rattle.dispute.specs.declared.settle.Answer.TheVariants.{Shown}
 use Rattle.dispute.proofs.show.show_both.Goals as goal
 
 both : (head first second b1 b2 x y : Bytes) → x ≡ over (head ++ first) b1 → y ≡ over (head ++ second) b2
-    → outcome (Shown (length head + length first) (length head + length second)) x y ≡ showing (some (head ++ first, head ++ second)) b1 b2
+    → outcome (Ok (Some (record { first = length head + length first; second = length head + length second }))) x y ≡ showing (some (head ++ first, head ++ second)) b1 b2
 unfolding finding_of
 both head first second b1 b2 x y ex ey = rw (ex, ey, length-append head first, length-append head second)
 

@@ -30,12 +30,12 @@ shown p q o j head x y b1 b2 r eh ex ey er =
 pub show_both-requires : goal.show_both-requires
 show_both-requires c =
     let a = c.args in
-    let h = c.element_head-head.ensures in (
-      fits a.proof1.now a.at a.j.0 _ _ a.out1.now h c.component_at-one.ensures c.requires.message_room_in_bounds.0,
-      fits a.proof2.now a.at a.j.0 _ _ a.out2.now h c.component_at-two.ensures c.requires.message_room_in_bounds.1,
+    let h = c.element_head.ensures in (
+      fits a.proof1.now a.spot.offset a.spot.element.0 _ _ a.out1.now h c.component_at-one.ensures c.requires.message_room_in_bounds.0,
+      fits a.proof2.now a.spot.offset a.spot.element.0 _ _ a.out2.now h c.component_at-two.ensures c.requires.message_room_in_bounds.1,
     )
 
 pub returns : goal.returns
 returns c =
     let a = c.args in
-    shown a.proof1.now a.proof2.now a.at a.j.0 _ _ _ a.out1.now a.out2.now _ c.element_head-head.ensures c.component_at-one.ensures c.component_at-two.ensures c.show_both.ensures
+    shown a.proof1.now a.proof2.now a.spot.offset a.spot.element.0 _ _ _ a.out1.now a.out2.now _ c.element_head.ensures c.component_at-one.ensures c.component_at-two.ensures c.show_both.ensures

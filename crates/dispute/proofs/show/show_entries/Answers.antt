@@ -16,13 +16,13 @@ module _ (e1 e2 b1 b2 : Bytes) (o : Disputed) where
   differ : same e1 e2 ≡ false → o ≡ showing (some (entry_msg e1, entry_msg e2)) b1 b2 → o ≡ showing (unlike (same e1 e2) (entry_msg e1, entry_msg e2)) b1 b2
   differ e s = rw e s
 
-pub returns-then-same : goal.returns-then-same
+pub returns-then-eq : goal.returns-then-eq
 unfolding finding_of
-returns-then-same c =
+returns-then-eq c =
     let a = c.args in
-    alike a.entry1.now a.entry2.now a.out1.now a.out2.now _ (sym c.same.ensures ∙ c.if-same.true) refl
+    alike a.entry1.now a.entry2.now a.out1.now a.out2.now _ (sym c.eq.ensures ∙ c.if-eq.true) refl
 
 pub returns : goal.returns
 returns c =
     let a = c.args in
-    differ a.entry1.now a.entry2.now a.out1.now a.out2.now _ (sym c.same.ensures ∙ c.if-same.false) c.show_both.ensures
+    differ a.entry1.now a.entry2.now a.out1.now a.out2.now _ (sym c.eq.ensures ∙ c.if-eq.false) c.show_both.ensures

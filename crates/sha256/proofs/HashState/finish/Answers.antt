@@ -1,9 +1,10 @@
 -- `sha256::HashState::finish` meets its contract: it makes the rule's test, and closes what is sound.
 use mathlib.Core.Path.{◌≡◌, sym, ap, ◌∙◌}
 use mathlib.Core.Bool.{false}
+use Rattle.std.specs.Prelude.{Ok}
 use Rattle.fips.specs.Sha256.{bytes_of}
 use Rattle.sha256.specs.Stream.{broken}
-use Rattle.sha256.specs.Outcomes.{answered, sound_facts, finished_broken, finished_sound}
+use Rattle.sha256.specs.Outcomes.{sound_facts, finished_broken, finished_sound}
 use Rattle.sha256.proofs.HashState.finish.Goals as goal
 use Rattle.sha256.proofs.HashState.finish.Goals.{Else-is_broken}
 
@@ -19,4 +20,4 @@ closed-last-requires c = sound_facts _ (sound (goal.at.closed-last-requires c).E
 
 pub returns : goal.returns
 returns c =
-    ap (answered 0) (c.bytes_of-digest.ensures ∙ ap bytes_of c.closed-last.ensures) ∙ sym (finished_sound _ (sound (goal.at.returns c).Else-is_broken))
+    ap Ok (c.bytes_of.ensures ∙ ap bytes_of c.closed-last.ensures) ∙ sym (finished_sound _ (sound (goal.at.returns c).Else-is_broken))

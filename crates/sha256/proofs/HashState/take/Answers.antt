@@ -1,9 +1,10 @@
 -- `sha256::HashState::take` meets its contract: it makes the rule's tests in the rule's order.
 use mathlib.Core.Path.{◌≡◌, sym, ap, ◌∙◌}
 use mathlib.Core.Bool.{false}
+use Rattle.std.specs.Prelude.{Ok}
 use native.Mathlib.Omega.{arith}
 use Rattle.sha256.specs.Stream.{broken}
-use Rattle.sha256.specs.Outcomes.{told, sound_facts, taken_broken, taken_long, taken_fits}
+use Rattle.sha256.specs.Outcomes.{sound_facts, taken_broken, taken_long, taken_fits}
 use Rattle.sha256.proofs.HashState.take.Goals as goal
 use Rattle.sha256.proofs.HashState.take.Goals.{Else-is_broken}
 
@@ -30,4 +31,4 @@ feed-self-requires c =
 pub returns : goal.returns
 returns c =
     let h = sound_facts _ (sound (goal.at.returns c).Else-is_broken) in
-    ap (told 0) c.feed-self.ensures ∙ sym (taken_fits _ _ (sound (goal.at.returns c).Else-is_broken) (omega arith))
+    ap Ok c.feed-self.ensures ∙ sym (taken_fits _ _ (sound (goal.at.returns c).Else-is_broken) (omega arith))
