@@ -75,7 +75,9 @@ pub fn clash(
 ) -> Result<Clashed, ClashError>
     ensures { formed (clash_told result) out1.new out2.new ≡ clash_call hash_of key.now root.bytes presence.now absence.now out1.old out2.old }
 {
-    if out1.len() < ROOM || out2.len() < ROOM {
+    let one_short = out1.len() < ROOM;
+    let two_short = out2.len() < ROOM;
+    if one_short || two_short {
         return Err(ClashError::BufferShort);
     }
     let Ok(()) = check_presence(key, root, presence) else {

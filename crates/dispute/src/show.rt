@@ -23,9 +23,8 @@ fn show(out: &mut [u8], head: &[u8], body: &[u8])
     requires { length head.now + length body.now ≤ length out.old }
     ensures { out.new ≡ over (head.now ++ body.now) out.old }
 {
-    let end = head.len() + body.len();
-    out[..head.len()].copy_from_slice(head);
-    out[head.len()..end].copy_from_slice(body);
+    lists::lay(out, 0, head);
+    lists::lay(out, head.len(), body);
 }
 
 // Shows two messages with one head.

@@ -20,6 +20,17 @@ pub fn put(s: &mut [u8], at: usize, from: &[u8], k: usize)
     s[at..at + k].copy_from_slice(&from[..k]);
 }
 
+// Copies all of `from` into s from index at, byte by byte. For two lent slices, of which a machine's copy of blocks can't know that they lie apart: it
+// would be `memmove`, which the library for C does without.
+pub fn lay(s: &mut [u8], at: usize, from: &[u8])
+    requires { at + length from.now ≤ length s.old }
+    ensures { s.new ≡ paste s.old at from.now (length from.now) }
+{
+    for (i, byte) in from.iter().enumerate() {
+        s[at + i] = *byte;
+    }
+}
+
 // The 32 bytes of s from index at.
 pub fn row_at(s: &[u8], at: usize) -> [u8; 32]
     requires { at + 32 ≤ length s.now }

@@ -11,7 +11,7 @@ ghost use Rattle.lookup.specs.Told.{verdict_number};
 ghost use Rattle.lookup.specs.Climbing.{Sized, depth_of};
 ghost use Rattle.lookup.specs.declared.LookupError.TheVariants.{KeyTooLong};
 
-use handles::{handle_of, rows};
+use handles::{handle_for, rows, within_limit};
 use hash::Digest;
 use node::{crossing, digest_of, leaf};
 
@@ -65,10 +65,11 @@ fn leads_to(key: Digest, proof: &[u8], bottom: Digest, root: Digest) -> bool
 pub fn check_presence(key: &[u8], root: Digest, proof: &[u8]) -> Result<(), LookupError>
     ensures { verdict_number result ≡ check_presence hash_of key.now root.bytes proof.now }
 {
-    let handle = handle_of(key)?;
+    within_limit(key)?;
     if proof.len() != LONGEST {
         return Err(LookupError::WrongLength);
     }
+    let handle = handle_for(key);
     if !leads_to(handle, proof, leaf(&handle.bytes), root) {
         return Err(LookupError::RootDiffers);
     }
@@ -79,12 +80,12 @@ pub fn check_presence(key: &[u8], root: Digest, proof: &[u8]) -> Result<(), Look
 pub fn check_absence(key: &[u8], root: Digest, proof: &[u8]) -> Result<(), LookupError>
     ensures { verdict_number result ≡ check_absence hash_of key.now root.bytes proof.now }
 {
-    let handle = handle_of(key)?;
+    within_limit(key)?;
     if proof.len() % 32 != 0 || LONGEST < proof.len() {
         return Err(LookupError::WrongLength);
     }
     let empty = Digest { bytes: [0u8; 32] };
-    if !leads_to(handle, proof, empty, root) {
+    if !leads_to(handle_for(key), proof, empty, root) {
         return Err(LookupError::RootDiffers);
     }
     Ok(())

@@ -1,7 +1,7 @@
 -- ONE OUTCOME, CALL BY CALL: any two outcomes that the statement of a public call allows coincide. This file lists every public call of the library,
 -- and every export. A contract says that the answer, and what lent memory holds after the call, told in the terms of documents 01 and 02, are one function of what
 -- the call was given; `One told o` says that this leaves one answer. Each line cites the one law of rules, or the crate's own citation of it.
-use Rattle.std.specs.Prelude.{◌≡◌, [], ◌++◌, ℕ, ⊤, Result}
+use Rattle.std.specs.Prelude.{◌≡◌, [], ◌++◌, ℕ, ◌<◌, ⊤, Result, Option, IfSome}
 use Rattle.std.proofs.Common.{sym, ap, ap₂, ◌∙◌}
 use Rattle.lists.specs.Bytes.{Bytes}
 use Rattle.sha256.specs.Stream.{begun, taken, finished, hashed}
@@ -34,7 +34,8 @@ use Rattle.build.specs.Promises as build
 use Rattle.membership.specs.Verdicts.{verdict_of, one_verdict}
 use Rattle.advancement.specs.Advancing.{outcome_of}
 use Rattle.advancement.specs.Advances as advancement
-use Rattle.place.specs.Places.{cut}
+use Rattle.place.specs.Places.{part_is, part_one, cut}
+use Rattle.place.specs.declared.Part.{Part}
 use Rattle.dispute.specs.Answers.{Answer, outcome, one_answer}
 use Rattle.dictionary.specs.Calls.{handle_call, root_call, presence_call, absence_call, check_presence, check_absence, clash_call}
 use Rattle.handles.specs.Told.{handle_told}
@@ -134,6 +135,11 @@ pub advancement_check_advancement : (h : Held) (n : Length) (D : Digest) (p : By
 advancement_check_advancement = advancement.advanced_one
 
 -- ---- place
+
+-- by both clauses: `part_is` tells none as it would tell a part of no bytes, which the other clause rules out
+pub place_differing_at : (p q : Bytes) (i n : ℕ) (x y : Option Part) → IfSome x (λ s. 0 < s.size) → IfSome y (λ s. 0 < s.size) →
+    part_is x ≡ differing v1 i n p q → part_is y ≡ differing v1 i n p q → x ≡ y
+place_differing_at p q i n x y hx hy ex ey = part_one x y hx hy (ex ∙ sym ey)
 
 pub place_differing : (p q : Bytes) (i n : ℕ) → OneOf (cut (differing v1 i n p q) q)
 place_differing p q i n = one_of (cut (differing v1 i n p q) q)

@@ -29,10 +29,8 @@ pub fn number<E: Into<Said>>(r: Result<(), E>) -> u64
     ensures ok { OnOk r (result ≡ 0) }
     ensures err { IfErr r (λ e. (s : Said) × E.converts e s × (result ≡ s.number)) }
 {
-    if let Err(e) = r {
-        return number_of(e);
-    }
-    0
+    let said: Said = r.into();
+    said.number
 }
 
 // Writes a digest unless there is a refusal; gives the number to return.

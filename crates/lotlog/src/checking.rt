@@ -44,7 +44,7 @@ pub extern "C" fn lot_check_advancement(
     let mut state = read_held(held);
     let checked = checker::check_advancement(&mut state, Length(n), d, proof);
     if checked.is_ok() {
-        write_held(state, held);
+        write_held(&state, held);
     }
     tell(checked, answer)
 }

@@ -18,7 +18,7 @@ use wire::{HELD_BYTES, read_held, write_held};
 pub extern "C" fn lot_held_start(log: u64, held: &mut [u8; HELD_BYTES]) -> u64
     ensures { left result held.new ≡ lot_held_start log }
 {
-    write_held(held::start(log), held);
+    write_held(&held::start(log), held);
     0
 }
 
@@ -29,7 +29,7 @@ fn leave_held<E: Into<Said>>(r: Result<Held, E>, lent: &mut [u8; HELD_BYTES]) ->
 {
     match r {
         Ok(h) => {
-            write_held(h, lent);
+            write_held(&h, lent);
             0
         }
         Err(e) => number_of(e),

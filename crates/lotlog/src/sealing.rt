@@ -31,11 +31,12 @@ pub extern "C" fn lot_seal_add(
 {
     let y = Digest { bytes: *chain };
     let added = sealed::add(key, y, kind, data, out);
+    let number = tell(added.map(|a| a.size), answer);
     if let Ok(a) = added {
         let y = a.chain.bytes;
         *chain = y;
     }
-    tell(added.map(|a| a.size), answer)
+    number
 }
 
 // Checks a van's whole log from its first key. Answer: its entries, or with 24 the first wrong one.

@@ -3,7 +3,7 @@
 // Each error of the calls becomes such numbers by `From`, and so does what a call answers with a number where it is good.
 #![tactic(auto)]
 
-ghost use Rattle.std.specs.Prelude.{◌≡◌, Err, IfErr, IfOk};
+ghost use Rattle.std.specs.Prelude.{◌≡◌, Err, IfErr, IfOk, OnOk};
 ghost use Rattle.rules.specs.Calls.{gives, refuses};
 ghost use Rattle.hash.specs.declared.Digest.{Digest};
 ghost use Rattle.sha256.specs.Stream as sha256;
@@ -63,6 +63,18 @@ impl<E: Into<Said>> From<Result<u64, E>> for Said {
     fn from(r: Result<u64, E>) -> Said {
         match r {
             Ok(n) => say(0, n),
+            Err(e) => e.into(),
+        }
+    }
+}
+
+// What a call answers that gives no number where it is good.
+impl<E: Into<Said>> From<Result<(), E>> for Said {
+    ghost from_gives = { λ r s. OnOk r (Says s (gives 0)) × IfErr r (λ e. E.converts e s) };
+
+    fn from(r: Result<(), E>) -> Said {
+        match r {
+            Ok(()) => say(0, 0),
             Err(e) => e.into(),
         }
     }

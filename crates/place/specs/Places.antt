@@ -1,7 +1,7 @@
 -- Where two proofs differ, as the rules have it; and that the part handed back stands inside the second proof.
-use Rattle.std.specs.Prelude.{◌≡◌, refl, Bool, true, false, ◌&&◌, cond, ℕ, ◌+◌, ◌≤◌, eqb, length, take, drop, Option as Found, Some, None}
+use Rattle.std.specs.Prelude.{◌≡◌, refl, Bool, true, false, ◌&&◌, cond, ℕ, ◌+◌, ◌≤◌, ◌<◌, eqb, length, take, drop, IfSome, Option as Found, Some, None}
 use Rattle.std.proofs.Math.Option.{Option, none, some}
-use Rattle.std.proofs.Common.{arith, eqb-true}
+use Rattle.std.proofs.Common.{arith, ap, ap₂, eqb-true}
 use Rattle.lists.specs.Bytes.{Bytes}
 use Rattle.rules.specs.Numbers.{v1}
 use Rattle.rules.specs.Paths.{path}
@@ -20,6 +20,14 @@ spot_of (Some s) = some (s.element.0, s.offset)
 abbrev pub part_is : Found Part → Place
 part_is None = record { from = 0; size = 0 }
 part_is (Some x) = record { from = x.from; size = x.size }
+
+-- Two answers that both clauses of `place::differing_at` allow are the same: a part of no bytes, which would tell as none does, is no answer.
+pub part_one : (x y : Found Part) → IfSome x (λ p. 0 < p.size) → IfSome y (λ p. 0 < p.size) → part_is x ≡ part_is y → x ≡ y
+part_one None None hx hy e = refl
+part_one None (Some y) hx hy e = let s : ◌≡◌ {A = ℕ} 0 y.size = ap (λ (p : Place). p.size) e in absurd (omega (arith, s, hy))
+part_one (Some x) None hx hy e = let s : ◌≡◌ {A = ℕ} x.size 0 = ap (λ (p : Place). p.size) e in absurd (omega (arith, s, hx))
+part_one (Some x) (Some y) hx hy e =
+    ap₂ {A = ℕ} {B = ℕ} {C = Found Part} (λ from size. Some (record { from = from; size = size })) (ap (λ (p : Place). p.from) e) (ap (λ (p : Place). p.size) e)
 
 -- the bytes of a part
 abbrev pub cut : Place → Bytes → Bytes

@@ -11,9 +11,9 @@ ghost use Rattle.trie.specs.Tidy.{Tidy};
 ghost use Rattle.prove.specs.Told.{built_told};
 ghost use Rattle.prove.specs.declared.ProveError.TheVariants.{KeyTooLong};
 
-use handles::{handle_of, has_handle, listed};
+use handles::{handle_for, has_handle, listed, within_limit};
 use hash::Digest;
-use node::turns;
+use node::key_turns;
 use trie::{side_of, subtree};
 
 // Why no proof is built: the list is not one, the asked kind is not true, or the output has no room.
@@ -45,7 +45,7 @@ fn siblings(handles: &[u8], key: Digest, e: usize) -> usize
         return 0;
     }
     let below = e - 1;
-    let own = side_of(handles, below, turns(&key.bytes, below));
+    let own = side_of(handles, below, key_turns(&key.bytes, below));
     siblings(own, key, below) + 1
 }
 
@@ -61,7 +61,7 @@ fn put_way(handles: &[u8], key: Digest, e: usize, out: &mut [u8])
         return;
     }
     let below = e - 1;
-    let one = turns(&key.bytes, below);
+    let one = key_turns(&key.bytes, below);
     let sibling = subtree(side_of(handles, below, !one), below);
     let (front, rest) = out.split_at_mut(32);
     front.copy_from_slice(&sibling.bytes);
@@ -73,10 +73,11 @@ fn put_way(handles: &[u8], key: Digest, e: usize, out: &mut [u8])
 fn build(handles: &[u8], key: &[u8], out: &mut [u8], present: bool) -> Result<u64, ProveError>
     ensures { written (built_told result) out.new ≡ prove_call hash_of (is present (is_present hash_of handles.now key.now)) handles.now key.now out.old }
 {
-    let handle = handle_of(key)?;
+    within_limit(key)?;
     if !listed(handles) {
         return Err(ProveError::ListRefused);
     }
+    let handle = handle_for(key);
     // the two kinds differ in this test alone, so `present` is its bool and no enum
     if has_handle(handles, handle) != present {
         return Err(ProveError::OtherKind);

@@ -11,7 +11,7 @@ ghost use Rattle.trie.specs.Told.{root_told};
 
 use handles::{listed, rows};
 use hash::Digest;
-use node::{digest_of, inner_message, leaf, turns};
+use node::{inner_digest, key_turns, leaf};
 
 // The list of handles is broken, too long, or not rising.
 #[derive(Clone, Copy, Debug, PartialEq, Eq)]
@@ -23,7 +23,7 @@ fn ones_from(handles: &[u8], e: usize) -> usize
     ensures { result ≡ 32 * leading e (rows_of handles.now) }
 {
     let rows = rows(handles);
-    let ones = rows.iter().position(|handle| turns(handle, e));
+    let ones = rows.iter().position(|handle| key_turns(handle, e));
     32 * ones.unwrap_or(rows.len())
 }
 
@@ -60,7 +60,7 @@ pub fn subtree(handles: &[u8], e: usize) -> Digest
     let (zeros, ones) = sides(handles, below);
     let left = subtree(zeros, below);
     let right = subtree(ones, below);
-    digest_of(inner_message(left, right))
+    inner_digest(&left, &right)
 }
 
 // The root of a lent list of handles.

@@ -50,8 +50,8 @@ fn put_rows(rows: &[Digest; held::LEVELS], out: &mut [u8; HELD_BYTES])
 }
 
 // Writes the bytes of a state.
-pub fn write_held(h: Held, out: &mut [u8; HELD_BYTES])
-    ensures { out.new ≡ wire_of (holds h) }
+pub fn write_held(h: &Held, out: &mut [u8; HELD_BYTES])
+    ensures { out.new ≡ wire_of (holds h.now) }
 {
     out[..8].copy_from_slice(&h.log.to_be_bytes());
     out[8..16].copy_from_slice(&h.count.0.to_be_bytes());

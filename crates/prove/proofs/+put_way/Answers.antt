@@ -26,10 +26,10 @@ split_at_mut-front-requires t c =
 
 -- the sibling, and the way below it
 way_is : (t : ℕ) (c : After-side_of-2 t) → let a = c.args in
-    way_over a.e a.key.bytes a.handles.now ≡ subtree hash_of (a.e - 1) (side (not c.turns-one.result) (a.e - 1) (rows_of a.handles.now)) ∷ way_over (a.e - 1) a.key.bytes c.side_of-2.result.now
+    way_over a.e a.key.bytes a.handles.now ≡ subtree hash_of (a.e - 1) (side (not c.key_turns-one.result) (a.e - 1) (rows_of a.handles.now)) ∷ way_over (a.e - 1) a.key.bytes c.side_of-2.result.now
 way_is t c =
     let a = c.args in
-    way_step a.e a.key.bytes a.handles.now _ _ c.if-e-eq0.false (row t (goal.at.After-side_of-2 t c).Else-is_empty) c.turns-one.ensures c.side_of-2.ensures
+    way_step a.e a.key.bytes a.handles.now _ _ c.if-e-eq0.false (row t (goal.at.After-side_of-2 t c).Else-is_empty) c.key_turns-one.ensures c.side_of-2.ensures
 
 pub put_way-requires : goal.put_way-requires
 put_way-requires t c = (

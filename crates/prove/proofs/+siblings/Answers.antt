@@ -16,7 +16,7 @@ returns t c =
     let a = c.args in
     let own = c.side_of-own.ensures in (
       count_step _
-          (way_step a.e _ a.handles.now _ _ c.if-e-eq0.false (filled a.handles.now c.requires.0.whole (eqb-false _ 0 (sym c.is_empty.ensures ∙ c.if-is_empty.false))) c.turns.ensures own)
+          (way_step a.e _ a.handles.now _ _ c.if-e-eq0.false (filled a.handles.now c.requires.0.whole (eqb-false _ 0 (sym c.is_empty.ensures ∙ c.if-is_empty.false))) c.key_turns.ensures own)
           c.siblings.ensures.0,
       omega (arith, c.siblings.ensures.1, c.if-e-eq0.false),
     )

@@ -1,6 +1,5 @@
 -- `trie::subtree` meets its contract: the node over its two sides.
-use Rattle.std.proofs.Common.{◌≡◌, ℕ, sym, ap, ◌∙◌, drop, ◌∷◌}
-use Rattle.hash.specs.Hash.{hash_of}
+use Rattle.std.proofs.Common.{◌≡◌, ℕ, sym, ◌∙◌, drop, ◌∷◌}
 use Rattle.dictionary.specs.Handles.{rows_of}
 use Rattle.trie.proofs.Nodes.{no_rows, first_row, node_empty, node_leaf, node_inner}
 use Rattle.trie.proofs.+subtree.Goals as goal
@@ -19,7 +18,6 @@ returns-then-e-eq0 t c = c.leaf.ensures ∙ node_leaf _ (rows_of c.args.handles.
 pub returns : goal.returns
 returns t c =
     let a = c.args in
-    c.digest_of.ensures
-    ∙ ap hash_of c.inner_message.ensures
+    c.inner_digest.ensures
     ∙ node_inner a.e a.handles.now _ _ _ _ _ _ c.if-e-eq0.false (some_rows t (goal.at.returns t c).In-Some)
     c.sides.ensures.zeros c.sides.ensures.ones c.subtree-left.ensures c.subtree-right.ensures

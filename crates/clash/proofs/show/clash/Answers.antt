@@ -14,7 +14,7 @@ use Rattle.lookup.specs.Told.{verdict_number}
 use Rattle.lookup.specs.declared.LookupError.{LookupError}
 use Rattle.lookup.specs.declared.LookupError.TheVariants.{KeyTooLong, WrongLength, RootDiffers}
 use Rattle.clash.proofs.show.clash.Goals as goal
-use Rattle.clash.proofs.show.clash.Goals.{Else-out2-lt-ROOM, In-Ok, In-Ok-check_absence, then-out1-lt-ROOM-via-then-out1-lt-ROOM, then-out1-lt-ROOM-via-else-out1-lt-ROOM+then-out2-lt-ROOM}
+use Rattle.clash.proofs.show.clash.Goals.{Else-two_short, In-Ok, In-Ok-check_absence, then-one_short-via-then-one_short, then-one_short-via-else-one_short+then-two_short}
 
 -- ---- the buffers
 
@@ -27,8 +27,8 @@ second_short b1 b2 h k = rw (le-leb 65 (length b1) h, lt-leb 65 (length b2) k)
 both_long : (b1 b2 : Bytes) → 65 ≤ length b1 → 65 ≤ length b2 → roomy b1 b2 ≡ true
 both_long b1 b2 h k = rw (le-leb 65 (length b1) h, le-leb 65 (length b2) k)
 
-room : (c : Else-out2-lt-ROOM) → roomy c.args.out1.now c.args.out2.now ≡ true
-room c = both_long c.args.out1.now c.args.out2.now c.if-out1-lt-ROOM.false c.if-out2-lt-ROOM.false
+room : (c : Else-two_short) → roomy c.args.out1.now c.args.out2.now ≡ true
+room c = both_long c.args.out1.now c.args.out2.now c.if-one_short.false c.if-two_short.false
 
 -- ---- the two proofs
 
@@ -54,24 +54,24 @@ full_proof c = full hash_of _ _ _ (first_good c)
 empty_proof : (c : In-Ok-check_absence) → let a = c.args in Empty hash_of a.key.now a.root.bytes a.absence.now
 empty_proof c = empty hash_of _ _ _ (second_good c)
 
-pub returns-then-out1-lt-ROOM : goal.returns-then-out1-lt-ROOM
-returns-then-out1-lt-ROOM c =
+pub returns-then-one_short : goal.returns-then-one_short
+returns-then-one_short c =
     let a = c.args in
-    elim c.then-out1-lt-ROOM.branch [
-      | then-out1-lt-ROOM-via-then-out1-lt-ROOM w ↦
-          sym (clash_is hash_of a.key.now a.root.bytes a.presence.now a.absence.now a.out1.now a.out2.now (first_short a.out1.now a.out2.now w.if-out1-lt-ROOM.true) refl refl)
-      | then-out1-lt-ROOM-via-else-out1-lt-ROOM+then-out2-lt-ROOM w ↦
+    elim c.then-one_short.branch [
+      | then-one_short-via-then-one_short w ↦
+          sym (clash_is hash_of a.key.now a.root.bytes a.presence.now a.absence.now a.out1.now a.out2.now (first_short a.out1.now a.out2.now w.if-one_short.true) refl refl)
+      | then-one_short-via-else-one_short+then-two_short w ↦
           sym (clash_is hash_of a.key.now a.root.bytes a.presence.now a.absence.now a.out1.now a.out2.now
-          (second_short a.out1.now a.out2.now w.if-out1-lt-ROOM.false w.if-out2-lt-ROOM.true) refl refl)
+          (second_short a.out1.now a.out2.now w.if-one_short.false w.if-two_short.true) refl refl)
     ]
 
 pub returns-in_default : goal.returns-in_default
-returns-in_default c = sym (clash_is hash_of _ _ _ _ _ _ (room (goal.at.returns-in_default c).Else-out2-lt-ROOM) (bad _ _ c.in_default.ensures) refl)
+returns-in_default c = sym (clash_is hash_of _ _ _ _ _ _ (room (goal.at.returns-in_default c).Else-two_short) (bad _ _ c.in_default.ensures) refl)
 
 pub returns-in_default-check_absence : goal.returns-in_default-check_absence
 returns-in_default-check_absence c =
     let s = goal.at.returns-in_default-check_absence c in
-    sym (clash_is hash_of _ _ _ _ _ _ (room s.Else-out2-lt-ROOM) (first_good s.In-Ok) (bad _ _ c.in_default-check_absence.ensures))
+    sym (clash_is hash_of _ _ _ _ _ _ (room s.Else-two_short) (first_good s.In-Ok) (bad _ _ c.in_default-check_absence.ensures))
 
 pub handle_for-requires : goal.handle_for-requires
 handle_for-requires c = (full_proof (goal.at.handle_for-requires c).In-Ok).short
@@ -91,4 +91,4 @@ returns c =
     c.show.ensures
     ∙ ap (λ (m : Meets). showing m b1 b2)
     (c.walk_up-found.ensures ∙ ap (λ (k : Bytes). meeting hash_of 256 k (rows_of a.presence.now) (rows_of a.absence.now)) c.handle_for.ensures)
-    ∙ sym (clash_is hash_of _ _ a.presence.now a.absence.now b1 b2 (room s.Else-out2-lt-ROOM) (first_good s.In-Ok) (second_good s.In-Ok-check_absence))
+    ∙ sym (clash_is hash_of _ _ a.presence.now a.absence.now b1 b2 (room s.Else-two_short) (first_good s.In-Ok) (second_good s.In-Ok-check_absence))
