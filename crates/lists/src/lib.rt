@@ -6,6 +6,7 @@ ghost use Rattle.std.proofs.Math.Seq.{paste};
 ghost use Rattle.lists.specs.Bytes.{be, number};
 
 // Whether two slices hold the same bytes.
+#[tactic(auto, using(crate::proofs::Tests::tested, std::proofs::lemmas::List::take_all))]
 pub fn same(a: &[u8], b: &[u8]) -> bool
     ensures { result ≡ Rattle.lists.specs.Bytes.same a.now b.now }
 {

@@ -1,6 +1,7 @@
 -- ONE OUTCOME, CALL BY CALL: any two outcomes that the statement of a public call allows coincide. This file lists every public call of the library,
 -- and every export. A contract says that the answer, and what lent memory holds after the call, told in the terms of documents 01 and 02, are one function of what
--- the call was given; `One told o` says that this leaves one answer. Each line cites the one law of rules, or the crate's own citation of it.
+-- the call was given; `One told o` says that this leaves one answer. Each line cites the one law of rules, or the crate's own citation of it; that of
+-- `place_differing_at`, whose contract says in a second clause that a part has bytes, cites what its crate says of the two together.
 use Rattle.std.specs.Prelude.{◌≡◌, [], ◌++◌, ℕ, ◌<◌, ⊤, Result, Option, IfSome}
 use Rattle.std.proofs.Common.{sym, ap, ap₂, ◌∙◌}
 use Rattle.lists.specs.Bytes.{Bytes}

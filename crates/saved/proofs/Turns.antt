@@ -93,18 +93,16 @@ module _ (out₀ : Bytes) (rs : List Bytes) (n : ℕ) (out : Bytes) (q at l : �
     }
 
   -- a row in use goes to `at`, whole,
-  pub put_used : l < v1.levels → (r o : Bytes) → r ≡ get_or rs l [] → length r ≡ 32 → q % 2 ≡ 1 → o ≡ paste out at r 32 → Put out₀ rs n o (q / 2) (at + 32) (l + 1)
+  pub put_used : l < v1.levels → (r o : Bytes) → r ≡ get_or rs l [] → length r ≡ 32 → q % 2 ≡ 1 → o ≡ paste out at r 32 → Put out₀ rs n o (q / 2) (at + 32 * (q % 2)) (l + 1)
   put_used h r o known whole e put =
       let u : odd q ≡ true = is_used q (λ z. omega arith) in
-      let k : at + 32 * (q % 2) ≡ at + 32 = omega arith in
-      rw k at (put_turn h r o known (row_size q r whole) (rw (u, e) put))
+      put_turn h r o known (row_size q r whole) (rw (u, e) put)
 
   -- and one that is not leaves the output.
-  pub put_free : l < v1.levels → (q % 2 ≡ 1 → ⊥) → Put out₀ rs n out (q / 2) at (l + 1)
+  pub put_free : l < v1.levels → (q % 2 ≡ 1 → ⊥) → Put out₀ rs n out (q / 2) (at + 32 * (q % 2)) (l + 1)
   put_free h e =
       let z : q % 2 ≡ 0 = omega arith in
-      let k : at + 32 * (q % 2) ≡ at = omega arith in
-      rw k at (put_turn h (get_or rs l []) out refl (rw (is_free q z, z)) (rw (is_free q z, z) (paste-zero out at [])))
+      put_turn h (get_or rs l []) out refl (rw (is_free q z, z)) (rw (is_free q z, z) (paste-zero out at []))
 
   module _ (h : v1.levels ≤ l) (few : n ≤ limit v1) where
     every : take l rs ≡ rs

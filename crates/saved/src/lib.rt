@@ -72,8 +72,8 @@ fn put_rows(rows: &[Digest; held::LEVELS], count: Length, out: &mut [u8])
     for row in rows {
         if bits % 2 == 1 {
             out[at..at + 32].copy_from_slice(&row.bytes);
-            at += 32;
         }
+        at += 32 * (bits % 2) as usize;
         bits /= 2;
     }
 }

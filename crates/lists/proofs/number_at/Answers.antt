@@ -1,5 +1,5 @@
 -- `lists::number_at` meets its contract: what is read of eight bytes is the number that they are.
-use Rattle.std.proofs.Common.{◌≡◌, ◌∙◌, ap, rules, take, drop}
+use Rattle.std.proofs.Common.{◌≡◌, ◌∙◌, ap, arith, rules, take, drop}
 use Rattle.lists.specs.Bytes.{number}
 use Rattle.lists.specs.Numbers.{eight}
 use Rattle.lists.specs.Laws.{length_part}
@@ -12,4 +12,4 @@ returns c =
     let part = take 8 (drop a.at a.s.now) in
     let w : c.unwrap-digits.result ≡ part = search rules in
     let e : from_be_bytes w64 c.unwrap-digits.result ≡ number part = ap (from_be_bytes w64) w ∙ eight part (length_part 8 a.at a.s.now c.requires) in
-    cc
+    omega (arith, e)

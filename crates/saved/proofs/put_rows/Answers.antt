@@ -26,10 +26,10 @@ loop-row-preserved c =
     elim c.if-bits-eq1.branch [
       | then-bits-eq1 w ↦
           let whole : length row ≡ 32 = search rules in
-          rw (w.out-is, w.at-is)
-          (put_used _ _ _ l.out l.bits l.at l.row-index l.invariant (omega arith) row _ (sym (row_of rows l.row-index)) whole w.if-bits-eq1.true
+          rw w.out-is
+          (put_used _ _ _ l.out l.bits l.at l.row-index l.invariant (omega arith) row _ (sym (row_of rows l.row-index)) whole (omega (arith, w.if-bits-eq1.true))
           (put_mid-paste l.at (l.at + 32 - l.at) l.out w.copy_from_slice.new.self row 32 w.copy_from_slice.ensures.after (omega arith) (sym whole)))
-      | else-bits-eq1 w ↦ rw (w.out-is, w.at-is) (put_free _ _ _ l.out l.bits l.at l.row-index l.invariant (omega arith) w.if-bits-eq1.false)
+      | else-bits-eq1 w ↦ rw w.out-is (put_free _ _ _ l.out l.bits l.at l.row-index l.invariant (omega arith) (λ e. w.if-bits-eq1.false (omega (arith, e))))
     ]
 
 pub returns : goal.returns

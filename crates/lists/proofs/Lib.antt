@@ -1,0 +1,1 @@
+pub mod Tests  -- std's test of two slices
